@@ -1,0 +1,19 @@
+-- The members of a that b lacks: the code is the definition.
+use mathlib.Core.Path.{refl}
+use native.Mathlib.Omega.{arith}
+use lib.Bits.{and-le-l}
+use Rattle.attribute_set.specs.Sets.{without}
+use Rattle.attribute_set.proofs.difference.Statement.{statement}
+use Rattle.attribute_set.proofs.difference.Tie as tie
+use Rattle.attribute_set.proofs.difference.Reads as reads
+use Rattle.attribute_set.proofs.difference.Lts as lts
+
+sub-result : tie.Need-sub-result
+sub-result c = and-le-l _ _
+
+returns : tie.Need-returns
+unfolding without
+returns c = refl
+
+pub difference-spec : {M : Type 1} → statement M
+difference-spec = tie.close (tie.spec sub-result returns)

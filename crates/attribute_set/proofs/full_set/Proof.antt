@@ -1,0 +1,33 @@
+-- The set of all n attributes: 64 ones at the most.
+use mathlib.Core.Path.{_≡_, sym, ap, _∙_}
+use Prim.Native.Nat.{_-_, min}
+use borrow.Author.Needs.{needs}
+use native.Mathlib.Omega.{arith}
+use lib.Pow.{pow-pos}
+use Rattle.attribute_set.specs.Sets.{full}
+use Rattle.attribute_set.proofs.full_set.Statement.{statement}
+use Rattle.attribute_set.proofs.full_set.Tie as tie
+use Rattle.attribute_set.proofs.full_set.Reads as reads
+use Rattle.attribute_set.proofs.full_set.Lts as lts
+use Rattle.attribute_set.proofs.single.Reads as single-reads
+
+returns : tie.Need-returns
+unfolding full
+returns c =
+    let e : min (c .before .args .n) 64 ≡ 64 = omega arith in
+    rw e
+
+single-requires : tie.Need-single-requires
+single-requires c κs = search needs
+
+sub-result : tie.Need-sub-result
+sub-result c = omega (arith, c .single .ensures, pow-pos (c .before .before .args .n))
+
+returns-2 : tie.Need-returns-2
+unfolding full
+returns-2 c =
+    let e : min (c .before .before .args .n) 64 ≡ c .before .before .args .n = omega arith in
+    rw e (ap (λ k. k - 1) (c .single .ensures))
+
+pub full-set-spec : {M : Type 1} → statement M
+full-set-spec = tie.close (tie.spec returns single-requires sub-result returns-2)

@@ -1,0 +1,20 @@
+-- The word that holds attribute j alone: a shift of 1, which fits.
+use mathlib.Core.Path.{_∙_}
+use native.Mathlib.Omega.{arith}
+use native.Mathlib.Nat.{one-mul}
+use lib.Dec.{lit<}
+use lib.Pow.{shl-exact}
+use borrow.Author.Needs.{needs}
+use Rattle.attribute_set.proofs.single.Statement.{statement}
+use Rattle.attribute_set.proofs.single.Tie as tie
+use Rattle.attribute_set.proofs.single.Reads as reads
+use Rattle.attribute_set.proofs.single.Lts as lts
+
+shl-result : tie.Need-shl-result
+shl-result c = search needs
+
+returns : tie.Need-returns
+returns c = shl-exact {a = 1} 1 (c .args .j) 64 (lit< tt) (omega arith) ∙ one-mul _
+
+pub single-spec : {M : Type 1} → statement M
+single-spec = tie.close (tie.spec shl-result returns)

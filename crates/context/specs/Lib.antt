@@ -1,0 +1,4 @@
+pub mod Places
+pub mod Objects
+pub mod Reach
+pub mod Tables

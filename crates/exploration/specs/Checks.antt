@@ -1,0 +1,123 @@
+-- The refusals of document 01, in checking order ("Refusals in checking order"): each check has its number, whether it
+-- fails, and the place it names then; the first that fails decides. Everything is decided by computing.
+use mathlib.Core.Bool.{Bool, true, false, not, _||_}
+use mathlib.Core.List.{List, [], _∷_, _++_}
+use mathlib.Core.Option.{Option, none, some}
+use Prim.Native.Nat.{ℕ, zero, suc, _+_, _*_, _/_, _%_}
+use lib.ListN.{length}
+use lib.Dec.{eqb, ltb, leb}
+use Rattle.theory.specs.Implications.{Implication}
+use Rattle.attribute_set.specs.Sets.{inside, full, without}
+use Rattle.implication.specs.Closure.{implication, closure}
+use Rattle.context.specs.Places.{lowest, anywhere}
+use Rattle.context.specs.Objects.{Object, refutes, markedTwice, contradicts}
+use Rattle.context.specs.Reach.{reach}
+
+-- the limits of a session: 64 attributes (01: properties), 512 objects (rows), 256 implications (rules)
+abbrev pub mostAttributes : ℕ
+mostAttributes = 64
+
+abbrev pub mostObjects : ℕ
+mostObjects = 512
+
+abbrev pub mostImplications : ℕ
+mostImplications = 256
+
+-- the lengths of the lent slices, in words: two to an object, two to an implication
+pub record Lent : Type 0 where
+  pub rows : ℕ
+  pub list : ℕ
+  pub background : ℕ
+
+-- what the plain machine holds: n, the background, the lent lengths, the rows and the list in use, the current set
+pub record State : Type 0 where
+  pub n : ℕ
+  pub lent : Lent
+  pub background : List (Implication ℕ)
+  pub rows : List Object
+  pub list : List (Implication ℕ)
+  pub current : ℕ
+
+-- the implications in force (01: rules in force): background and list together
+abbrev pub force : State → List (Implication ℕ)
+force s = s .background ++ s .list
+
+-- the reach of the current set
+abbrev pub reachOf : State → ℕ
+reachOf s = reach (force s) (s .n) (s .rows) (s .current)
+
+-- a question stands: the current set is not M, and its reach differs from it
+unfoldable pub questionStands : State → Bool
+questionStands s = elim (eqb (s .current) (full (s .n))) [ true ↦ false | false ↦ not (eqb (reachOf s) (s .current)) ]
+
+-- the question: from the current set to the rest of its reach
+abbrev pub question : State → Implication ℕ
+question s = implication (s .current) (without (reachOf s) (s .current))
+
+-- the state with the question in the list
+abbrev pub withQuestion : State → List (Implication ℕ)
+withQuestion s = s .background ++ (s .list ++ (question s ∷ []))
+
+-- ---- a refusal
+
+pub record Refusal : Type 0 where
+  pub number : ℕ
+  pub place : ℕ
+
+-- a check: its number, whether it fails, and the place that a refusal then names
+pub record Check : Type 0 where
+  pub number : ℕ
+  pub fails : Bool
+  pub place : ℕ
+
+abbrev pub check : ℕ → Bool → ℕ → Check
+check k b p = record { number = k; fails = b; place = p }
+
+-- the first check that fails
+unfoldable pub firstFailing : List Check → Option Refusal
+firstFailing [] = none
+firstFailing (c ∷ cs) = elim (c .fails) [ true ↦ some (record { number = c .number; place = c .place }) | false ↦ firstFailing cs ]
+
+-- ---- what the checks test
+
+-- a lent length is odd or above its limit
+unfoldable pub badLength : ℕ → ℕ → Bool
+badLength most words = not (eqb (words % 2) 0) || ltb (most * 2) words
+
+-- an attribute outside M
+unfoldable pub strangeObject : ℕ → Object → Bool
+strangeObject n o = not (inside (o .yes-marks) (full n)) || not (inside (o .no-marks) (full n))
+
+unfoldable pub strangeImplication : ℕ → Implication ℕ → Bool
+strangeImplication n r = not (inside (r .premise) (full n)) || not (inside (r .conclusion) (full n))
+
+-- ---- the checks, in 01's order; `asked` is the implication that a read-only call asks about, or none
+
+unfoldable pub sessionChecks : State → List (Implication ℕ) → List Check
+sessionChecks s asked =
+    check 1 (eqb (s .n) 0 || ltb mostAttributes (s .n)) 0
+    ∷ check 2 (badLength mostObjects (s .lent .rows) || (badLength mostImplications (s .lent .list) || badLength mostImplications (s .lent .background))) 0
+    ∷ check 3 (ltb (s .lent .rows / 2) (length (s .rows)) || ltb (s .lent .list / 2) (length (s .list))) 0
+    ∷ check 4 (anywhere (strangeObject (s .n)) (s .rows) || (anywhere (strangeImplication (s .n)) (force s ++ asked) || not (inside (s .current) (full (s .n))))) 0
+    ∷ check 5 (anywhere markedTwice (s .rows)) (lowest markedTwice (s .rows))
+    ∷ check 6 (anywhere (contradicts (force s)) (s .rows)) (lowest (contradicts (force s)) (s .rows))
+    ∷ check 7 (not (eqb (closure (force s) (s .current)) (s .current))) 0
+    ∷ []
+
+-- a yes: no question; a row in use contradicts with the new rule added; no place for a rule
+unfoldable pub yesChecks : State → List Check
+yesChecks s =
+    check 8 (not (questionStands s)) 0
+    ∷ check 11 (anywhere (contradicts (withQuestion s)) (s .rows)) (lowest (contradicts (withQuestion s)) (s .rows))
+    ∷ check 12 (leb (s .lent .list / 2) (length (s .list))) 0
+    ∷ []
+
+-- a no: no question; a bad row; a row that does not refute the question; one that contradicts; no place for a row
+unfoldable pub noChecks : State → Object → List Check
+noChecks s o =
+    check 8 (not (questionStands s)) 0
+    ∷ check 9 (strangeObject (s .n) o || markedTwice o) 0
+    ∷ check 10 (not (refutes (force s) o (question s))) 0
+    ∷ check 11 (contradicts (force s) o) 0
+    ∷ check 12 (leb (s .lent .rows / 2) (length (s .rows))) 0
+    ∷ []

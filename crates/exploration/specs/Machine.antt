@@ -1,0 +1,121 @@
+-- The plain machine of document 01 ("The interview"): the calls, their answers, what each does, and runs of calls.
+-- One function gives a call's answer and the state after it; a refusal leaves the state as it is.
+use mathlib.Core.Bool.{Bool, true, false}
+use mathlib.Core.List.{List, [], _∷_, _++_}
+use mathlib.Core.Option.{Option, none, some}
+use Prim.Native.Nat.{ℕ}
+use lib.ListN.{length}
+use lib.Dec.{eqb, ltb}
+use Rattle.theory.specs.Implications.{Implication}
+use Rattle.attribute_set.specs.Sets.{full}
+use Rattle.implication.specs.Closure.{closure, follows}
+use Rattle.implication.specs.Next.{next}
+use Rattle.context.specs.Objects.{Object, firstRefuting}
+use Rattle.exploration.specs.Checks.{Lent, State, Refusal, Check, firstFailing, sessionChecks, yesChecks, noChecks, force, reachOf, question, withQuestion}
+
+-- the calls of a session, with any arguments
+pub data Call : Type 0 where
+  step : Call
+  -- the replies to the standing question (01: yes; no, with an offered row)
+  accept : Call
+  reject : Object → Call
+  -- the read-only calls: whether an implication follows, whether a row refutes it
+  follow : Implication ℕ → Call
+  refute : Implication ℕ → Call
+
+pub data Answer : Type 0 where
+  -- of a step
+  finished : Answer
+  moved : Answer
+  asked : Implication ℕ → Answer
+  -- of a reply
+  taken : Answer
+  -- of the read-only calls: whether it follows; the first row that refutes it, or that none does
+  followed : Bool → Answer
+  refuted : ℕ → Answer
+  unrefuted : Answer
+  -- of any call: the number and place of 01's list
+  refused : Refusal → Answer
+
+-- a call's answer, and the state after it
+pub record Turn : Type 0 where
+  pub answer : Answer
+  pub after : State
+
+abbrev pub turn : Answer → State → Turn
+turn a s = record { answer = a; after = s }
+
+-- ---- states
+
+abbrev pub moveTo : State → ℕ → State
+moveTo s p = record { n = s .n; lent = s .lent; background = s .background; rows = s .rows; list = s .list; current = p }
+
+-- a yes: the question in the list, and the next set under the implications then in force
+abbrev pub afterYes : State → State
+afterYes s =
+    record { n = s .n; lent = s .lent; background = s .background; rows = s .rows; list = s .list ++ (question s ∷ []); current = next (withQuestion s) (s .n) (s .current) }
+
+-- a no: one row more
+abbrev pub afterNo : State → Object → State
+afterNo s o = record { n = s .n; lent = s .lent; background = s .background; rows = s .rows ++ (o ∷ []); list = s .list; current = s .current }
+
+-- ---- what an accepted call does
+
+-- at M: Finished. Where the reach differs: Asked. Else the next set.
+unfoldable pub performStep : State → Turn
+performStep s =
+    elim (eqb (s .current) (full (s .n))) [
+      | true ↦ turn finished s
+      | false ↦ elim (eqb (reachOf s) (s .current)) [
+          | true ↦ turn moved (moveTo s (next (force s) (s .n) (s .current)))
+          | false ↦ turn (asked (question s)) s
+        ]
+    ]
+
+-- the first row that refutes, where there is one
+unfoldable pub refutedAt : ℕ → ℕ → Answer
+refutedAt place rows = elim (ltb place rows) [ true ↦ refuted place | false ↦ unrefuted ]
+
+unfoldable pub performed : State → Call → Turn
+performed s step = performStep s
+performed s accept = turn taken (afterYes s)
+performed s (reject o) = turn taken (afterNo s o)
+performed s (follow r) = turn (followed (follows (force s) r)) s
+performed s (refute r) = turn (refutedAt (firstRefuting (force s) (s .rows) r) (length (s .rows))) s
+
+-- ---- a call, with its checks
+
+unfoldable pub checksOf : State → Call → List Check
+checksOf s step = sessionChecks s []
+checksOf s accept = sessionChecks s [] ++ yesChecks s
+checksOf s (reject o) = sessionChecks s [] ++ noChecks s o
+checksOf s (follow r) = sessionChecks s (r ∷ [])
+checksOf s (refute r) = sessionChecks s (r ∷ [])
+
+unfoldable pub perform : State → Call → Turn
+perform s c = elim (firstFailing (checksOf s c)) [ none ↦ performed s c | some r ↦ turn (refused r) s ]
+
+-- the state after a list of calls
+unfoldable pub run : State → List Call → State
+run s [] = s
+run s (c ∷ cs) = run (perform s c .after) cs
+
+-- ---- the opening
+
+pub data Opening : Type 0 where
+  opened : State → Opening
+  rejected : Refusal → Opening
+
+-- the list is empty, and the current set is the closure of the empty set under the background
+abbrev pub openingState : ℕ → Lent → List (Implication ℕ) → List Object → State
+openingState n lent background rows =
+    record { n = n; lent = lent; background = background; rows = rows; list = []; current = closure background 0 }
+
+-- Checks 1 to 6 on what is given. The list is empty and the current set is a closure, so that 7 and the list's part of 3
+-- and 4 never fail here.
+unfoldable pub opening : ℕ → Lent → List (Implication ℕ) → List Object → Opening
+opening n lent background rows =
+    elim (firstFailing (sessionChecks (openingState n lent background rows) [])) [
+      | none ↦ opened (openingState n lent background rows)
+      | some r ↦ rejected r
+    ]

@@ -1,0 +1,52 @@
+-- Document 01's marked cases a to l, one table. n = 3 unless said; the set {0, 2} is the word 5, and so on.
+-- `Marked.Proof` proves the whole table by computing the definitions.
+use mathlib.Core.Path.{_≡_}
+use mathlib.Core.List.{List, [], _∷_}
+use Prim.Native.Nat.{ℕ, _-_, _^_}
+use Rattle.theory.specs.Implications.{Implication}
+use Rattle.attribute_set.specs.Sets.{full}
+use Rattle.implication.specs.Closure.{implication, closure}
+use Rattle.implication.specs.Next.{next}
+use Rattle.context.specs.Objects.{object}
+use Rattle.context.specs.Reach.{reach}
+use Rattle.exploration.specs.Checks.{Lent, State, reachOf}
+use Rattle.exploration.specs.Machine.{step, accept, reject, finished, taken, refused, perform, opening, opened, openingState}
+pub mod Proof
+
+-- all places lent, and one background implication
+abbrev pub lent : Lent
+lent = record { rows = 1024; list = 512; background = 2 }
+
+-- background {0,1} → {2}, a row yes {0}, no {2}, current set {0}
+abbrev pub stateI : State
+stateI = record { n = 3; lent = lent; background = implication 3 4 ∷ []; rows = object 1 4 ∷ []; list = []; current = 1 }
+
+-- n = 1, background {} → {0}
+abbrev pub stateK : State
+stateK = openingState 1 lent (implication 0 1 ∷ []) []
+
+pub record Marked : Type 0 where
+  -- no rules, closure of {0}
+  pub a : closure [] 1 ≡ 1
+  -- {0} → {1}, {1} → {2}, closure of {0}
+  pub b : closure (implication 1 2 ∷ implication 2 4 ∷ []) 1 ≡ 7
+  -- no rows, reach of {}
+  pub c : reach [] 3 [] 0 ≡ 7
+  -- row yes {0}, no {2}: reach of {0}, then of {1}
+  pub d : reach [] 3 (object 1 4 ∷ []) 1 ≡ 3
+  pub e : reach [] 3 (object 1 4 ∷ []) 2 ≡ 7
+  -- no rules: next after {}, then after {1,2}
+  pub f : next [] 3 0 ≡ 4
+  pub g : next [] 3 6 ≡ 1
+  -- {2} → {1}, {0} → {1}: next after {0}
+  pub h : next (implication 4 2 ∷ implication 1 2 ∷ []) 3 1 ≡ 3
+  -- a yes is refused with 11, place 0
+  pub i : perform stateI accept .answer ≡ refused (record { number = 11; place = 0 })
+  -- a no with yes {0}, no {1} is accepted, and the reach of {0} is {0} then
+  pub j-accepted : perform stateI (reject (object 1 2)) .answer ≡ taken
+  pub j-reach : reachOf (perform stateI (reject (object 1 2)) .after) ≡ 1
+  -- Finished at the opening
+  pub k-opened : opening 1 lent (implication 0 1 ∷ []) [] ≡ opened stateK
+  pub k-finished : perform stateK step .answer ≡ finished
+  -- n = 64, no rules: next after {0..62}
+  pub l : next [] 64 (2 ^ 63 - 1) ≡ full 64

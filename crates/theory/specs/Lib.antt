@@ -1,0 +1,5 @@
+pub mod Lists
+pub mod Sets
+pub mod Implications
+pub mod Canonical
+pub mod Exploration
