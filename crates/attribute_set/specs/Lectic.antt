@@ -3,7 +3,6 @@
 use mathlib.Core.Path.{_≡_}
 use Prim.Native.Nat.{ℕ, _+_, _%_, _^_, _<_}
 use Rattle.attribute_set.specs.Sets.{digit, In}
-
 pub mod Laws
 
 -- a is earlier than b: b holds the smallest attribute in which they differ

@@ -6,7 +6,6 @@ use mathlib.Core.Bool.{Bool, not}
 use Prim.Native.Nat.{ℕ, _-_, _/_, _%_, _^_}
 use lib.Dec.{eqb}
 use lib.Bits.{bitAnd}
-
 pub mod Laws
 
 -- bit i of the word w: 1 where attribute i is a member, else 0

@@ -6,8 +6,8 @@ use Prim.Native.Nat.{ℕ}
 use lib.Bits.{bitOr}
 use Rattle.theory.specs.Lists.{All}
 use Rattle.theory.specs.Implications.{Implication}
-use Rattle.attribute_set.specs.Sets.{Sub, Apart, full}
-use Rattle.context.specs.Objects.{Object, refutes}
+use Rattle.attribute_set.specs.Sets.{Sub, Apart, full, without}
+use Rattle.context.specs.Objects.{Object, object, refutes}
 pub mod Laws
 
 -- a complete object over n attributes: none is unknown, and none is marked both ways
@@ -18,6 +18,10 @@ pub record Complete (n : ℕ) (o : Object) : Type 0 where
 -- a complete table has only complete objects, possibly none
 abbrev pub Table : ℕ → List Object → Type 0
 Table n t = All (Complete n) t
+
+-- the complete object whose yes marks are s
+abbrev pub completed : ℕ → ℕ → Object
+completed n s = object s (without (full n) s)
 
 -- c has all marks of o
 pub record Extends (o c : Object) : Type 0 where

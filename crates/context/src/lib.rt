@@ -1,1 +1,86 @@
-// context
+// Objects with unknown marks in a flat slice, two words each: the yes marks, then the no marks. The reach of a set, and the
+// first object that refutes an implication; both hold for whatever implications rs are in force.
+ghost use mathlib.Core.Path.{_≡_};
+ghost use mathlib.Core.List.{List};
+ghost use Prim.Native.Nat.{ℕ, _*_, _/_, _≤_, min};
+ghost use lib.ListN.{length};
+ghost use Rattle.theory.specs.Implications.{Implication};
+ghost use Rattle.implication.specs.Closure.{implication};
+ghost use Rattle.context.specs.Objects.{object, objectsOf, refutes, firstRefuting};
+ghost use Rattle.context.specs.Reach.{cut, narrow, reach};
+
+// How many of the first count objects a slice of so many words has whole.
+fn whole_rows(count: usize, words: usize) -> usize
+    ensures { λ r. ⌜ r ≡ min count (words / 2) ⌝ }
+{
+    let whole = words / 2;
+    if count < whole { count } else { whole }
+}
+
+// What one object leaves of x: what it does not lack, where it has the set.
+fn cut_by(yes: u64, no: u64, set: u64, x: u64) -> u64
+    ensures { λ r. ⌜ ((rs : List (Implication ℕ)) → r ≡ cut rs set (object yes no) x) ⌝ }
+{
+    if set & yes == set {
+        attribute_set::difference(x, no)
+    } else {
+        x
+    }
+}
+
+// What the first count objects leave of x.
+fn narrow_by(rows: &[u64], count: usize, set: u64, x: u64) -> u64
+    requires { ⌜ count * 2 ≤ length (now rows) ⌝ }
+    ensures { λ r. ⌜ ((rs : List (Implication ℕ)) → r ≡ narrow rs set (objectsOf count (now (rows .entry))) x) ⌝ }
+{
+    let mut left = x;
+    let mut i = 0;
+    while i < count {
+        left = cut_by(rows[i * 2], rows[i * 2 + 1], set, left);
+        i += 1;
+    }
+    left
+}
+
+// The reach of a set among the first n attributes (64 at the most), over the first count objects.
+pub fn reach_of(n: usize, rows: &[u64], count: usize, set: u64) -> u64
+    ensures { λ r. ⌜ ((rs : List (Implication ℕ)) → r ≡ reach rs (min n 64) (objectsOf count (now (rows .entry))) set) ⌝ }
+{
+    narrow_by(
+        rows,
+        whole_rows(count, rows.len()),
+        set,
+        attribute_set::full_set(n),
+    )
+}
+
+// Whether the object refutes the implication.
+fn refuted_by(yes: u64, no: u64, premise: u64, conclusion: u64) -> bool
+    ensures { λ r. ⌜ ((rs : List (Implication ℕ)) → r ≡ refutes rs (object yes no) (implication premise conclusion)) ⌝ }
+{
+    premise & yes == premise && conclusion & no != 0
+}
+
+// The place of the first of count objects that refutes the implication; count where none does.
+fn refuting_among(rows: &[u64], count: usize, premise: u64, conclusion: u64) -> usize
+    requires { ⌜ count * 2 ≤ length (now rows) ⌝ }
+    ensures { λ r. ⌜ ((rs : List (Implication ℕ)) → r ≡ firstRefuting rs (objectsOf count (now (rows .entry))) (implication premise conclusion)) ⌝ }
+{
+    let mut place = 0;
+    while place < count {
+        if refuted_by(rows[place * 2], rows[place * 2 + 1], premise, conclusion) {
+            return place;
+        }
+        place += 1;
+    }
+    count
+}
+
+// The place of the first of the first count objects that refutes the implication; count where none does.
+pub fn first_refuting(rows: &[u64], count: usize, premise: u64, conclusion: u64) -> usize
+    ensures { λ r. ⌜ ((rs : List (Implication ℕ)) → r ≡ firstRefuting rs (objectsOf count (now (rows .entry))) (implication premise conclusion)) ⌝ }
+{
+    let whole = whole_rows(count, rows.len());
+    let place = refuting_among(rows, whole, premise, conclusion);
+    if place < whole { place } else { count }
+}

@@ -12,6 +12,7 @@ use Rattle.implication.specs.Closure.{implication, closure}
 use Rattle.context.specs.Places.{lowest, anywhere}
 use Rattle.context.specs.Objects.{Object, refutes, markedTwice, contradicts}
 use Rattle.context.specs.Reach.{reach}
+pub mod Laws
 
 -- the limits of a session: 64 attributes (01: properties), 512 objects (rows), 256 implications (rules)
 abbrev pub mostAttributes : ℕ
@@ -91,6 +92,12 @@ strangeObject n o = not (inside (o .yes-marks) (full n)) || not (inside (o .no-m
 unfoldable pub strangeImplication : ℕ → Implication ℕ → Bool
 strangeImplication n r = not (inside (r .premise) (full n)) || not (inside (r .conclusion) (full n))
 
+-- a row in use, a rule in force, a rule asked about or the current set has an attribute outside M
+unfoldable pub outsideM : State → List (Implication ℕ) → Bool
+outsideM s asked =
+    anywhere (strangeObject (s .n)) (s .rows)
+    || (anywhere (strangeImplication (s .n)) (force s ++ asked) || not (inside (s .current) (full (s .n))))
+
 -- ---- the checks, in 01's order; `asked` is the implication that a read-only call asks about, or none
 
 unfoldable pub sessionChecks : State → List (Implication ℕ) → List Check
@@ -98,7 +105,7 @@ sessionChecks s asked =
     check 1 (eqb (s .n) 0 || ltb mostAttributes (s .n)) 0
     ∷ check 2 (badLength mostObjects (s .lent .rows) || (badLength mostImplications (s .lent .list) || badLength mostImplications (s .lent .background))) 0
     ∷ check 3 (ltb (s .lent .rows / 2) (length (s .rows)) || ltb (s .lent .list / 2) (length (s .list))) 0
-    ∷ check 4 (anywhere (strangeObject (s .n)) (s .rows) || (anywhere (strangeImplication (s .n)) (force s ++ asked) || not (inside (s .current) (full (s .n))))) 0
+    ∷ check 4 (outsideM s asked) 0
     ∷ check 5 (anywhere markedTwice (s .rows)) (lowest markedTwice (s .rows))
     ∷ check 6 (anywhere (contradicts (force s)) (s .rows)) (lowest (contradicts (force s)) (s .rows))
     ∷ check 7 (not (eqb (closure (force s) (s .current)) (s .current))) 0

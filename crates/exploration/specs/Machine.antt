@@ -12,6 +12,7 @@ use Rattle.implication.specs.Closure.{closure, follows}
 use Rattle.implication.specs.Next.{next}
 use Rattle.context.specs.Objects.{Object, firstRefuting}
 use Rattle.exploration.specs.Checks.{Lent, State, Refusal, Check, firstFailing, sessionChecks, yesChecks, noChecks, force, reachOf, question, withQuestion}
+pub mod Laws
 
 -- the calls of a session, with any arguments
 pub data Call : Type 0 where
@@ -67,9 +68,9 @@ performStep s =
     elim (eqb (s .current) (full (s .n))) [
       | true ↦ turn finished s
       | false ↦ elim (eqb (reachOf s) (s .current)) [
-          | true ↦ turn moved (moveTo s (next (force s) (s .n) (s .current)))
-          | false ↦ turn (asked (question s)) s
-        ]
+        | true ↦ turn moved (moveTo s (next (force s) (s .n) (s .current)))
+        | false ↦ turn (asked (question s)) s
+      ]
     ]
 
 -- the first row that refutes, where there is one

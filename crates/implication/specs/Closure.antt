@@ -10,7 +10,6 @@ use lib.Bits.{bitOr}
 use Rattle.theory.specs.Implications.{Implication}
 use Rattle.attribute_set.specs.Sets.{inside}
 use Rattle.implication.specs.Pairs.{pairs}
-
 pub mod Laws
 
 -- an implication (01: a rule) between words: premise, conclusion

@@ -1,3 +1,4 @@
 pub mod Pairs
 pub mod Closure
 pub mod Next
+pub mod Until

@@ -11,7 +11,6 @@ use Rattle.attribute_set.specs.Sets.{digit, Sub, full}
 use Rattle.attribute_set.specs.Lectic.{Before, below, raise}
 use Rattle.attribute_set.specs.Words.{words}
 use Rattle.implication.specs.Closure.{closure}
-
 pub mod Laws
 
 -- the candidate at j: the closure of attribute j with the members of x below it

@@ -116,6 +116,9 @@ none-sub x = record { at = λ i h. absurd (omega (arith, digit-none i)) }
 pub sub→and : {x y : ℕ} → Sub x y → bitAnd x y ≡ x
 sub→and {x} {y} s = ext (bitAnd x y) x (λ i. omega (arith, digit-and x y i, digit-sub s i))
 
+pub sub-le : {x y : ℕ} → Sub x y → x ≤ y
+sub-le {x} {y} s = omega (arith, sub→and s, and-le-r x y)
+
 pub and→sub : (x y : ℕ) → bitAnd x y ≡ x → Sub x y
 and→sub x y e = record { at = λ i h. omega (arith, digit-and x y i, ap (λ (n : ℕ). digit n i) e, digit-lt y i) }
 

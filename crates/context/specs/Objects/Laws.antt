@@ -1,1 +1,142 @@
--- laws
+-- What an object has and lacks (`has-written`, `lacks-written`: today its written marks), and what the tests of an object
+-- say of members. An object refutes an implication just if it has the premise and lacks some attribute of the conclusion.
+-- All else reads `has`, `lacks` and `refutes` through these laws.
+use mathlib.Core.Path.{_≡_, refl, sym, ap, _∙_}
+use mathlib.Core.Bool.{Bool, true, false, _&&_, false≢true}
+use mathlib.Core.List.{List, _∷_, _++_}
+use Prim.Native.Nat.{ℕ, suc, _/_, _≤_, _<_, min}
+use native.Mathlib.Omega.{arith}
+use lib.ListN.{length}
+use Rattle.theory.specs.Lists.{All}
+use Rattle.theory.specs.Implications.{Implication}
+use Rattle.attribute_set.specs.Sets.{digit, In, Sub, Apart, inside, meets}
+use Rattle.attribute_set.specs.Sets.Laws.{digit-none, inside-sub, outside-sub, meets-some, meets-apart, apart-meets, apart-sub, sub-refl}
+use Rattle.implication.specs.Closure.{closure}
+use Rattle.implication.specs.Closure.Laws.{closure-mono}
+use Rattle.implication.specs.Pairs.Laws.{length-pairs, pairs-whole}
+use Rattle.context.specs.Places.{lowest}
+use Rattle.context.specs.Places.Laws.{lowest-found, lowest-passed, lowest-append-found, lowest-append-none}
+use Rattle.context.specs.Objects.{Object, object, objectsOf, has, lacks, refutes, firstRefuting, markedTwice, contradicts}
+
+module _ (rs : List (Implication ℕ)) (o : Object) where
+  -- an object has and lacks what is written
+  pub has-written : has rs o ≡ o .yes-marks
+  unfolding has
+  has-written = refl
+
+  pub lacks-written : lacks rs o ≡ o .no-marks
+  unfolding lacks
+  lacks-written = refl
+
+  -- an object that lacks nothing lacks nothing of any set
+  pub lacks-none : lacks rs o ≡ 0 → (x : ℕ) → Apart x (lacks rs o)
+  lacks-none e x = record { at = λ i a b. omega (arith, digit-none i, ap (λ y. digit y i) e) }
+
+  module _ (r : Implication ℕ) where
+    -- where o has the premise, the test is whether it lacks any of the conclusion; where it has not, it is false
+    refutes-cases : (P : Bool → Type 0) → (Sub (r .premise) (has rs o) → P (meets (r .conclusion) (lacks rs o)))
+        → ((Sub (r .premise) (has rs o) → ⊥) → P false) → P (refutes rs o r)
+    unfolding refutes
+    refutes-cases P in′ out = go (inside (r .premise) (has rs o)) refl
+      where
+        go : (b : Bool) → inside (r .premise) (has rs o) ≡ b → P (b && meets (r .conclusion) (lacks rs o))
+        go true e = in′ (inside-sub _ _ e)
+        go false e = out (outside-sub _ _ e)
+
+    -- the same, as two equations
+    pub refutes-taken : Sub (r .premise) (has rs o) → refutes rs o r ≡ meets (r .conclusion) (lacks rs o)
+    refutes-taken h = refutes-cases (λ b. b ≡ meets (r .conclusion) (lacks rs o)) (λ k. refl) (λ k. absurd (k h))
+
+    pub refutes-left : (Sub (r .premise) (has rs o) → ⊥) → refutes rs o r ≡ false
+    refutes-left h = refutes-cases (λ b. b ≡ false) (λ k. absurd (h k)) (λ k. refl)
+
+    -- o refutes r: it has the premise, and lacks some attribute of the conclusion
+    pub refutes-has : refutes rs o r ≡ true → Sub (r .premise) (has rs o)
+    refutes-has = refutes-cases (λ b. b ≡ true → Sub (r .premise) (has rs o)) (λ h e. h) (λ h e. absurd (false≢true e))
+
+    pub refutes-lacks : refutes rs o r ≡ true → (i : ℕ) × In i (r .conclusion) × In i (lacks rs o)
+    refutes-lacks =
+        refutes-cases (λ b. b ≡ true → (i : ℕ) × In i (r .conclusion) × In i (lacks rs o)) (λ h e. meets-some _ _ e)
+        (λ h e. absurd (false≢true e))
+
+    -- o does not refute r: where it has the premise it lacks nothing of the conclusion
+    pub not-refutes : refutes rs o r ≡ false → Sub (r .premise) (has rs o) → Apart (r .conclusion) (lacks rs o)
+    not-refutes =
+        refutes-cases (λ b. b ≡ false → Sub (r .premise) (has rs o) → Apart (r .conclusion) (lacks rs o))
+        (λ h e k. meets-apart _ _ e) (λ h e k. absurd (h k))
+
+    pub spares : (Sub (r .premise) (has rs o) → Apart (r .conclusion) (lacks rs o)) → refutes rs o r ≡ false
+    spares k = refutes-cases (λ b. b ≡ false) (λ h. apart-meets (k h)) (λ h. refl)
+
+-- ---- the first object that refutes
+
+-- of the first count objects, how many the slice has whole
+abbrev pub whole : ℕ → List ℕ → ℕ
+whole count ws = min count (length ws / 2)
+
+module _ (rs : List (Implication ℕ)) (r : Implication ℕ) where
+  -- the first object refutes, or it is passed
+  pub first-found : (o : Object) (os : List Object) → refutes rs o r ≡ true → firstRefuting rs (o ∷ os) r ≡ 0
+  unfolding firstRefuting
+  first-found o os e = lowest-found (λ c. refutes rs c r) o os e
+
+  pub first-passed : (o : Object) (os : List Object) → refutes rs o r ≡ false → firstRefuting rs (o ∷ os) r ≡ suc (firstRefuting rs os r)
+  unfolding firstRefuting
+  first-passed o os e = lowest-passed (λ c. refutes rs c r) o os e
+
+  module _ (count : ℕ) (ws : List ℕ) where
+    -- what is counted past the whole objects of a slice refutes nothing
+    past : (t : List Object) × (objectsOf count ws ≡ objectsOf (whole count ws) ws ++ t) × All (λ o. refutes rs o r ≡ false) t
+    past =
+        let t = pairs-whole object (λ o. lacks rs o ≡ 0) (λ a. lacks-written rs (object a 0)) count ws in
+        (t .0, t .1, λ o m. spares rs o r (λ h. lacks-none rs o (t .2 o m) (r .conclusion)))
+
+    -- where a whole object refutes, the place among these is the place among all that are counted
+    pub first-whole : firstRefuting rs (objectsOf (whole count ws) ws) r < whole count ws
+        → firstRefuting rs (objectsOf count ws) r ≡ firstRefuting rs (objectsOf (whole count ws) ws) r
+    unfolding firstRefuting
+    first-whole h =
+        ap (lowest (λ o. refutes rs o r)) (past .1)
+        ∙ lowest-append-found _ (objectsOf (whole count ws) ws) (past .0) (rw length-pairs h)
+
+    -- where none of them refutes, none that is counted does
+    pub first-none : whole count ws ≤ firstRefuting rs (objectsOf (whole count ws) ws) r → firstRefuting rs (objectsOf count ws) r ≡ count
+    unfolding firstRefuting
+    first-none h =
+        ap (lowest (λ o. refutes rs o r)) (past .1)
+        ∙ lowest-append-none _ (objectsOf (whole count ws) ws) (past .0) (rw length-pairs h) (past .2)
+        ∙ ap length (sym (past .1)) ∙ length-pairs object count ws
+
+-- ---- marks
+
+-- the test of marks is false just if no attribute is marked both ways
+pub marked-apart : (o : Object) → markedTwice o ≡ false → Apart (o .yes-marks) (o .no-marks)
+unfolding markedTwice
+marked-apart o e = meets-apart _ _ e
+
+pub apart-marked : (o : Object) → Apart (o .yes-marks) (o .no-marks) → markedTwice o ≡ false
+unfolding markedTwice
+apart-marked o h = apart-meets h
+
+-- the test of contradiction is false just if the closure of the yes marks has no attribute marked no
+pub contradicts-apart : (rs : List (Implication ℕ)) (o : Object) → contradicts rs o ≡ false → Apart (closure rs (o .yes-marks)) (o .no-marks)
+unfolding contradicts
+contradicts-apart rs o e = meets-apart _ _ e
+
+pub apart-contradicts : (rs : List (Implication ℕ)) (o : Object) → Apart (closure rs (o .yes-marks)) (o .no-marks) → contradicts rs o ≡ false
+unfolding contradicts
+apart-contradicts rs o h = apart-meets h
+
+-- with more implications in force an object counts as having and lacking no less
+pub has-more : (rs ts : List (Implication ℕ)) (o : Object) → Sub (has rs o) (has (rs ++ ts) o)
+unfolding has
+has-more rs ts o = sub-refl (o .yes-marks)
+
+pub lacks-more : (rs ts : List (Implication ℕ)) (o : Object) → Sub (lacks rs o) (lacks (rs ++ ts) o)
+unfolding lacks
+lacks-more rs ts o = sub-refl (o .no-marks)
+
+-- an object that does not contradict lacks nothing of the closure of what it has
+pub consistent-apart : (rs : List (Implication ℕ)) (o : Object) {q : ℕ} → contradicts rs o ≡ false → Sub q (has rs o) → Apart (closure rs q) (lacks rs o)
+unfolding has lacks
+consistent-apart rs o e h = apart-sub (closure-mono rs h) (sub-refl (o .no-marks)) (contradicts-apart rs o e)

@@ -2,7 +2,7 @@
 -- it is monotone and idempotent, stays inside M, and does not mind implications whose conclusion is empty.
 use mathlib.Core.Path.{_≡_, refl, sym, ap, _∙_, subst}
 use mathlib.Core.Bool.{Bool, true, false}
-use mathlib.Core.List.{List, [], _∷_, _++_, List·Memᴰ, List·Memᴰ·head, List·Memᴰ·tail, append-assoc}
+use mathlib.Core.List.{List, [], _∷_, _++_, List·Memᴰ, List·Memᴰ·head, List·Memᴰ·tail, Memᴰ·append-right, append-assoc}
 use Prim.Native.Nat.{ℕ, zero, suc, _/_, _≤_, _<_, min}
 use native.Mathlib.Nat.{le-refl, le-trans}
 use native.Mathlib.Omega.{arith}
@@ -11,7 +11,7 @@ use lib.Dec.{eqb}
 use lib.Bits.{bitOr}
 use borrow.Author.Tests.{eqb-true, eqb-false}
 use Rattle.theory.specs.Lists.{All}
-use Rattle.theory.specs.Lists.Laws.{all-nil, all-cons, all-append, all-take}
+use Rattle.theory.specs.Lists.Laws.{all-nil, all-cons, all-append, all-take, all-snoc}
 use Rattle.theory.specs.Implications.{Implication, Respects, Closed, Least, Over}
 use Rattle.theory.specs.Implications.Laws.{least-one, least-same}
 use Rattle.attribute_set.specs.Sets.{Sub, inside, full}
@@ -245,3 +245,28 @@ closure-whole background list n s =
     let bs = implicationsOf (length background / 2) background in
     let xs = implicationsOf (min n (length list / 2)) list in
     ap (λ l. closure (bs ++ l) s) (t .1) ∙ ap (λ l. closure l s) (sym (append-assoc bs xs (t .0))) ∙ closure-idle (bs ++ xs) (t .0) (t .2) s
+
+-- what lies between a set and its closure has the same closure
+pub closure-between : (rs : List (Implication ℕ)) {s t : ℕ} → Sub s t → Sub t (closure rs s) → closure rs t ≡ closure rs s
+closure-between rs {s} {t} h k = sub-antisym (closure-least rs t .least (closure rs s) (closure-least rs s .member) k) (closure-mono rs h)
+
+-- more implications close further
+pub closure-more : (rs ts : List (Implication ℕ)) (s : ℕ) → Sub (closure rs s) (closure (rs ++ ts) s)
+closure-more rs ts s =
+    let c = closure-least (rs ++ ts) s in
+    closure-least rs s .least (closure (rs ++ ts) s) (all-take rs ts (c .member)) (c .above)
+
+-- one implication more: where the closure respects it, it is the closure under all
+pub one-more-end : (rs : List (Implication ℕ)) (r : Implication ℕ) (s : ℕ) → Respects words r (closure rs s) → closure (rs ++ (r ∷ [])) s ≡ closure rs s
+one-more-end rs r s h =
+    let c = closure-least rs s in
+    sub-antisym (closure-least (rs ++ (r ∷ [])) s .least (closure rs s) (all-snoc rs r (c .member) h) (c .above)) (closure-more rs (r ∷ []) s)
+
+-- and where it does not, its conclusion is added, and the closure under all is the same
+pub one-more-again : (rs : List (Implication ℕ)) (r : Implication ℕ) (s : ℕ) → Sub (r .premise) (closure rs s)
+    → closure (rs ++ (r ∷ [])) (bitOr (closure rs s) (r .conclusion)) ≡ closure (rs ++ (r ∷ [])) s
+one-more-again rs r s h =
+    let c = closure-least (rs ++ (r ∷ [])) s in
+    let k = closure-more rs (r ∷ []) s in
+    closure-between (rs ++ (r ∷ [])) (sub-trans (closure-least rs s .above) (or-left (closure rs s) (r .conclusion)))
+    (or-least k (c .member r (Memᴰ·append-right rs (List·Memᴰ·head refl)) (sub-trans h k)))

@@ -94,8 +94,7 @@ module _ {A : Type 0} (make : ℕ → ℕ → A) where
           let m = length ws / 2 in
           let e : n ≡ m + (n - m) = omega arith in
           let f : m ≡ min n m = omega arith in
-          let s : length (drop (m * 2) ws) < 2 = rw length-drop (omega arith) in
-          (
+          let s : length (drop (m * 2) ws) < 2 = rw length-drop (omega arith) in (
             pairs make (n - m) (drop (m * 2) ws),
             ap (λ (k : ℕ). pairs make k ws) e ∙ pairs-split m (n - m) ws ∙ ap (λ (k : ℕ). pairs make k ws ++ pairs make (n - m) (drop (m * 2) ws)) f,
             pairs-short P h (n - m) (drop (m * 2) ws) s,

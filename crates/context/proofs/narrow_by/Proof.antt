@@ -1,0 +1,94 @@
+-- What is left of x, cut by the objects not yet read, is what all of them leave.
+use mathlib.Core.Path.{_≡_, sym, ap, _∙_}
+use mathlib.Core.List.{List}
+use Prim.Native.Nat.{ℕ, _≤_, _<_, _+_, _-_, _*_}
+use borrow.Author.Needs.{needs}
+use native.Mathlib.Omega.{arith}
+use native.Mathlib.Nat.{sub-zero}
+use lib.ListN.{drop}
+use Rattle.theory.specs.Implications.{Implication}
+use Rattle.implication.specs.Pairs.Laws.{pairs-at, pairs-end}
+use Rattle.context.specs.Objects.{object, objectsOf}
+use Rattle.context.specs.Reach.{narrow}
+use Rattle.context.proofs.narrow_by.Statement.{statement}
+use Rattle.context.proofs.narrow_by.Tie as tie
+
+abbrev Inv-loop : tie.InvT-loop
+Inv-loop rows count set x left₀ i₀ left i =
+    (i ≤ count)
+    × ((rs : List (Implication ℕ)) → narrow rs set (objectsOf (count - i) (drop (i * 2) rows)) left ≡ narrow rs set (objectsOf count rows) x)
+
+abbrev μ-loop : tie.MeasureT-loop
+μ-loop rows count set x left₀ i₀ left i = count - i
+
+loop-holds : tie.Need-loop-holds Inv-loop μ-loop
+loop-holds c = (omega arith, λ rs. rw sub-zero)
+
+mul-cut-by : tie.Need-mul-cut-by Inv-loop μ-loop
+mul-cut-by c = omega arith
+
+mul-cut-by-2 : tie.Need-mul-cut-by-2 Inv-loop μ-loop
+mul-cut-by-2 c = search needs
+
+shared-slice-read-cut-by : tie.Need-shared-slice-read-cut-by Inv-loop μ-loop
+shared-slice-read-cut-by c = omega arith
+
+mul-cut-by-3 : tie.Need-mul-cut-by-3 Inv-loop μ-loop
+mul-cut-by-3 c = omega arith
+
+add-cut-by : tie.Need-add-cut-by Inv-loop μ-loop
+add-cut-by c = omega arith
+
+mul-cut-by-4 : tie.Need-mul-cut-by-4 Inv-loop μ-loop
+mul-cut-by-4 c = search needs
+
+shared-slice-read-cut-by-2 : tie.Need-shared-slice-read-cut-by-2 Inv-loop μ-loop
+shared-slice-read-cut-by-2 c = omega arith
+
+cut-by-requires : tie.Need-cut-by-requires Inv-loop μ-loop
+cut-by-requires c κs = search needs
+
+add-i : tie.Need-add-i Inv-loop μ-loop
+add-i c = omega arith
+
+loop-less : tie.Need-loop-less Inv-loop μ-loop
+loop-less c = omega arith
+
+loop-again : tie.Need-loop-again Inv-loop μ-loop
+unfolding narrow
+loop-again c =
+    let l = c .before .before .before .before .loop in
+    let a = c .before .before .before .before .before .before .args in
+    let h : l .i < a .count = omega arith in (
+      omega arith,
+      λ rs. ap (narrow rs (a .set) (objectsOf (a .count - (l .i + 1)) (drop ((l .i + 1) * 2) (a .rows .now)))) (c .cut-by .ensures rs)
+          ∙ ap (λ os. narrow rs (a .set) os (l .left)) (sym (pairs-at object (a .rows .now) (a .count) (l .i) h)) ∙ l .inv .1 rs,
+    )
+
+returns : tie.Need-returns Inv-loop μ-loop
+unfolding narrow
+returns c rs =
+    let l = c .before .loop in
+    let a = c .before .before .before .args in
+    ap (λ os. narrow rs (a .set) os (l .left)) (sym (pairs-end object (drop (l .i * 2) (a .rows .now)) (a .count) (l .i) (omega arith)))
+    ∙ l .inv .1 rs
+
+pub narrow-by-spec : {M : Type 1} → statement M
+narrow-by-spec =
+    tie.close
+    (tie.spec
+    Inv-loop
+    μ-loop
+    loop-holds
+    mul-cut-by
+    mul-cut-by-2
+    shared-slice-read-cut-by
+    mul-cut-by-3
+    add-cut-by
+    mul-cut-by-4
+    shared-slice-read-cut-by-2
+    cut-by-requires
+    add-i
+    loop-less
+    loop-again
+    returns)

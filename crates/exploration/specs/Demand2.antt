@@ -1,0 +1,42 @@
+-- Demand 2, contradiction: in a state that passes checks 1 to 7, a reply that passes the checks before 11 is refused with 11
+-- if and only if no complete table over M agrees with all rows in use, all rules in force and the reply.
+-- Said for a yes and for a no, for every state and every offered row; `Theorem` proves both.
+use mathlib.Core.Path.{_≡_}
+use mathlib.Core.Logic.{_↔_}
+use mathlib.Core.List.{List, [], _++_}
+use mathlib.Core.Option.{none}
+use Prim.Native.Nat.{ℕ}
+use lib.ListN.{take}
+use Rattle.theory.specs.Lists.{All}
+use Rattle.context.specs.Objects.{Object}
+use Rattle.context.specs.Tables.{Table, AgreesObject, AgreesImplication}
+use Rattle.exploration.specs.Checks.{State, firstFailing, sessionChecks, yesChecks, noChecks, force, question}
+use Rattle.exploration.specs.Machine.{Call, accept, reject, refused, perform}
+use Rattle.exploration.specs.Replies.{Reply, agreed, offered, AgreesReply}
+pub mod Theorem
+
+-- the call is refused with 11, at some place
+abbrev pub Refused11 : State → Call → Type 0
+Refused11 s c = (p : ℕ) × (perform s c .answer ≡ refused (record { number = 11; place = p }))
+
+-- t is a complete table that agrees with all rows in use, all rules in force and the reply
+pub record Agrees (s : State) (r : Reply) (t : List Object) : Type 0 where
+  pub complete : Table (s .n) t
+  pub rows : All (AgreesObject t) (s .rows)
+  pub rules : All (AgreesImplication t) (force s)
+  pub reply : AgreesReply t r
+
+-- no complete table agrees
+abbrev pub Contradictory : State → Reply → Type 0
+Contradictory s r = (t : List Object) → Agrees s r t → ⊥
+
+-- the checks before 11: 1 to 7, then 8 of a yes, and 8, 9, 10 of a no
+abbrev pub YesUpTo11 : State → Type 0
+YesUpTo11 s = firstFailing (sessionChecks s [] ++ take 1 (yesChecks s)) ≡ none
+
+abbrev pub NoUpTo11 : State → Object → Type 0
+NoUpTo11 s o = firstFailing (sessionChecks s [] ++ take 3 (noChecks s o)) ≡ none
+
+pub record Demand2 : Type 0 where
+  pub yes-call : (s : State) → YesUpTo11 s → Refused11 s accept ↔ Contradictory s (agreed (question s))
+  pub no-call : (s : State) (o : Object) → NoUpTo11 s o → Refused11 s (reject o) ↔ Contradictory s (offered o)

@@ -1,0 +1,85 @@
+-- The accepted replies of a list of calls, and when a complete table is truthful to them (01, "The interview").
+use mathlib.Core.Path.{_≡_}
+use mathlib.Core.Bool.{Bool, true, false}
+use mathlib.Core.List.{List, [], _∷_, _++_}
+use mathlib.Core.Option.{Option, none, some}
+use Prim.Native.Nat.{ℕ}
+use Rattle.theory.specs.Lists.{All}
+use Rattle.theory.specs.Implications.{Implication}
+use Rattle.context.specs.Objects.{Object}
+use Rattle.context.specs.Tables.{Table, AgreesObject, AgreesImplication}
+use Rattle.exploration.specs.Checks.{State, Refusal}
+use Rattle.exploration.specs.Machine.{Call, step, accept, reject, follow, refute, Answer, finished, moved, asked, taken, followed, refuted, unrefuted, refused, perform, run}
+pub mod Laws
+
+-- an accepted reply: the question that a yes agreed to, or the object that a no offered
+pub data Reply : Type 0 where
+  agreed : Implication ℕ → Reply
+  offered : Object → Reply
+
+unfoldable pub askedBy : Answer → Option (Implication ℕ)
+askedBy finished = none
+askedBy moved = none
+askedBy (asked q) = some q
+askedBy taken = none
+askedBy (followed b) = none
+askedBy (refuted p) = none
+askedBy unrefuted = none
+askedBy (refused r) = none
+
+-- the question of a reply in this state: what a step in its place would answer with Asked
+unfoldable pub questionAt : State → Option (Implication ℕ)
+questionAt s = askedBy (perform s step .answer)
+
+unfoldable pub isTaken : Answer → Bool
+isTaken finished = false
+isTaken moved = false
+isTaken (asked q) = false
+isTaken taken = true
+isTaken (followed b) = false
+isTaken (refuted p) = false
+isTaken unrefuted = false
+isTaken (refused r) = false
+
+abbrev pub agreedTo : Option (Implication ℕ) → List Reply
+agreedTo none = []
+agreedTo (some q) = agreed q ∷ []
+
+-- the reply that a call is, once accepted
+unfoldable pub madeBy : State → Call → List Reply
+madeBy s step = []
+madeBy s accept = agreedTo (questionAt s)
+madeBy s (reject o) = offered o ∷ []
+madeBy s (follow r) = []
+madeBy s (refute r) = []
+
+unfoldable pub replyOf : State → Call → List Reply
+replyOf s c = elim (isTaken (perform s c .answer)) [ true ↦ madeBy s c | false ↦ [] ]
+
+-- the accepted replies of a list of calls, in order
+unfoldable pub replies : State → List Call → List Reply
+replies s [] = []
+replies s (c ∷ cs) = replyOf s c ++ replies (perform s c .after) cs
+
+-- the questions of the accepted yes calls; the offered objects of the accepted no calls
+unfoldable pub agreedIn : List Reply → List (Implication ℕ)
+agreedIn [] = []
+agreedIn (agreed q ∷ rs) = q ∷ agreedIn rs
+agreedIn (offered o ∷ rs) = agreedIn rs
+
+unfoldable pub offeredIn : List Reply → List Object
+offeredIn [] = []
+offeredIn (agreed q ∷ rs) = offeredIn rs
+offeredIn (offered o ∷ rs) = o ∷ offeredIn rs
+
+-- a table agrees with a yes if it agrees with the implication, with a no if it agrees with the offered object
+abbrev pub AgreesReply : List Object → Reply → Type 0
+AgreesReply t (agreed q) = AgreesImplication t q
+AgreesReply t (offered o) = AgreesObject t o
+
+-- truthful: the complete table agrees with the background, all rows and each accepted reply
+pub record Truthful (t : List Object) (s : State) (calls : List Call) : Type 0 where
+  pub complete : Table (s .n) t
+  pub background : All (AgreesImplication t) (s .background)
+  pub rows : All (AgreesObject t) (run s calls .rows)
+  pub replied : All (AgreesReply t) (replies s calls)

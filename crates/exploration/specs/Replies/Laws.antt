@@ -1,0 +1,133 @@
+-- The rows of a run are those at its start, then the offered objects of the accepted no calls in order; its list is the list
+-- at its start, then the questions of the accepted yes calls in order. n, lent lengths and background stay as they are.
+-- All for every state and every list of calls.
+use mathlib.Core.Path.{_≡_, refl, sym, ap, _∙_}
+use mathlib.Core.Bool.{Bool, true, false}
+use mathlib.Core.List.{List, [], _∷_, _++_, append-assoc, append-nil}
+use mathlib.Core.Option.{Option, none, some}
+use Prim.Native.Nat.{ℕ}
+use lib.Dec.{ltb}
+use borrow.Author.Tests.{not-false}
+use Rattle.theory.specs.Implications.{Implication}
+use Rattle.implication.specs.Closure.{follows}
+use Rattle.exploration.specs.Checks.{State, force, question, firstFailing, sessionChecks, yesChecks}
+use Rattle.exploration.specs.Checks.Laws.{passed-append, none-failing, Stands, stands}
+use Rattle.exploration.specs.Machine.{Call, step, accept, reject, follow, refute, Answer, finished, moved, asked, followed, refuted, unrefuted, refused, Turn, turn, performed, checksOf, perform, run, refutedAt}
+use Rattle.exploration.specs.Machine.Laws.{perform-cases, perform-accepted, step-cases}
+use Rattle.exploration.specs.Replies.{Reply, agreed, offered, askedBy, questionAt, isTaken, agreedTo, madeBy, replyOf, replies, agreedIn, offeredIn}
+
+-- ---- what no call alters
+
+pub record Same (s s′ : State) : Type 0 where
+  pub n : s′ .n ≡ s .n
+  pub lent : s′ .lent ≡ s .lent
+  pub background : s′ .background ≡ s .background
+
+perform-same : (s : State) (c : Call) → Same s (perform s c .after)
+unfolding performed
+perform-same s c = perform-cases s c (λ t. Same s (t .after)) (λ e. performed-same c) (λ r e. record { n = refl; lent = refl; background = refl })
+  where
+    performed-same : (d : Call) → Same s (performed s d .after)
+    performed-same step = step-cases s (λ t. Same s (t .after)) (λ e. record { n = refl; lent = refl; background = refl })
+        (λ a b. record { n = refl; lent = refl; background = refl }) (λ a b. record { n = refl; lent = refl; background = refl })
+    performed-same accept = record { n = refl; lent = refl; background = refl }
+    performed-same (reject o) = record { n = refl; lent = refl; background = refl }
+    performed-same (follow r) = record { n = refl; lent = refl; background = refl }
+    performed-same (refute r) = record { n = refl; lent = refl; background = refl }
+
+pub run-same : (s : State) (calls : List Call) → Same s (run s calls)
+unfolding run
+run-same s [] = record { n = refl; lent = refl; background = refl }
+run-same s (c ∷ calls) =
+    let a = perform-same s c in
+    let b = run-same (perform s c .after) calls in
+    record { n = b .n ∙ a .n; lent = b .lent ∙ a .lent; background = b .background ∙ a .background }
+
+-- ---- lists of replies
+
+offered-append : (xs ys : List Reply) → offeredIn (xs ++ ys) ≡ offeredIn xs ++ offeredIn ys
+unfolding offeredIn
+offered-append [] ys = refl
+offered-append (agreed q ∷ xs) ys = offered-append xs ys
+offered-append (offered o ∷ xs) ys = ap (λ l. o ∷ l) (offered-append xs ys)
+
+agreed-append : (xs ys : List Reply) → agreedIn (xs ++ ys) ≡ agreedIn xs ++ agreedIn ys
+unfolding agreedIn
+agreed-append [] ys = refl
+agreed-append (agreed q ∷ xs) ys = ap (λ l. q ∷ l) (agreed-append xs ys)
+agreed-append (offered o ∷ xs) ys = agreed-append xs ys
+
+-- ---- one call
+
+-- where checks 1 to 7 pass and a question stands, it is what a step asks
+pub question-asked : (s : State) → firstFailing (sessionChecks s []) ≡ none → Stands s → questionAt s ≡ some (question s)
+unfolding questionAt askedBy performed checksOf
+question-asked s e h =
+    ap (λ (t : Turn). askedBy (t .answer)) (perform-accepted s step e)
+    ∙ step-cases s (λ t. askedBy (t .answer) ≡ some (question s)) (λ f. absurd (h .below f)) (λ a b. absurd (h .differs b)) (λ a b. refl)
+
+-- the reply, of a turn
+abbrev replyAt : State → Call → Turn → List Reply
+replyAt s c t = elim (isTaken (t .answer)) [ true ↦ madeBy s c | false ↦ [] ]
+
+-- what one call adds to rows and list
+record Adds (s : State) (c : Call) (t : Turn) : Type 0 where
+  rows : t .after .rows ≡ s .rows ++ offeredIn (replyAt s c t)
+  list : t .after .list ≡ s .list ++ agreedIn (replyAt s c t)
+
+adds-nothing : (s : State) (c : Call) (a : Answer) (s′ : State) → isTaken a ≡ false → s′ .rows ≡ s .rows → s′ .list ≡ s .list
+    → Adds s c (turn a s′)
+unfolding offeredIn agreedIn
+adds-nothing s c a s′ e r l =
+    let none′ : replyAt s c (turn a s′) ≡ [] = ap (λ b. elim b as (λ x. List Reply) [ true ↦ madeBy s c | false ↦ [] ]) e in
+    record {
+      rows = r ∙ sym (append-nil (s .rows)) ∙ ap (λ l. s .rows ++ offeredIn l) (sym none′);
+      list = l ∙ sym (append-nil (s .list)) ∙ ap (λ l. s .list ++ agreedIn l) (sym none′);
+    }
+
+refuted-untaken : (p k : ℕ) → isTaken (refutedAt p k) ≡ false
+unfolding refutedAt isTaken
+refuted-untaken p k = go (ltb p k)
+  where
+    go : (b : Bool) → isTaken (elim b [ true ↦ refuted p | false ↦ unrefuted ]) ≡ false
+    go true = refl
+    go false = refl
+
+performed-adds : (s : State) (c : Call) → firstFailing (checksOf s c) ≡ none → Adds s c (performed s c)
+unfolding performed checksOf isTaken madeBy offeredIn agreedIn yesChecks
+performed-adds s step e = step-cases s (Adds s step) (λ f. adds-nothing s step finished s refl refl refl)
+    (λ a b. adds-nothing s step moved _ refl refl refl) (λ a b. adds-nothing s step (asked (question s)) s refl refl refl)
+performed-adds s accept e =
+    let p = passed-append (sessionChecks s []) (yesChecks s) e in
+    let q = question-asked s (none-failing (sessionChecks s []) (p .0)) (stands s (not-false _ (p .1 .0))) in
+    record {
+      rows = sym (append-nil (s .rows)) ∙ ap (λ o. s .rows ++ offeredIn (agreedTo o)) (sym q);
+      list = ap (λ o. s .list ++ agreedIn (agreedTo o)) (sym q);
+    }
+performed-adds s (reject o) e = record { rows = refl; list = sym (append-nil (s .list)) }
+performed-adds s (follow r) e = adds-nothing s (follow r) (followed (follows (force s) r)) s refl refl refl
+performed-adds s (refute r) e = adds-nothing s (refute r) _ s (refuted-untaken _ _) refl refl
+
+perform-adds : (s : State) (c : Call) → Adds s c (perform s c)
+unfolding isTaken
+perform-adds s c = perform-cases s c (Adds s c) (performed-adds s c) (λ r e. adds-nothing s c (refused r) s refl refl refl)
+
+-- ---- a run
+
+pub run-rows : (s : State) (calls : List Call) → run s calls .rows ≡ s .rows ++ offeredIn (replies s calls)
+unfolding run replies replyOf offeredIn
+run-rows s [] = sym (append-nil (s .rows))
+run-rows s (c ∷ calls) =
+    run-rows (perform s c .after) calls
+    ∙ ap (λ l. l ++ offeredIn (replies (perform s c .after) calls)) (perform-adds s c .rows)
+    ∙ append-assoc (s .rows) (offeredIn (replyOf s c)) (offeredIn (replies (perform s c .after) calls))
+    ∙ ap (λ l. s .rows ++ l) (sym (offered-append (replyOf s c) (replies (perform s c .after) calls)))
+
+pub run-list : (s : State) (calls : List Call) → run s calls .list ≡ s .list ++ agreedIn (replies s calls)
+unfolding run replies replyOf agreedIn
+run-list s [] = sym (append-nil (s .list))
+run-list s (c ∷ calls) =
+    run-list (perform s c .after) calls
+    ∙ ap (λ l. l ++ agreedIn (replies (perform s c .after) calls)) (perform-adds s c .list)
+    ∙ append-assoc (s .list) (agreedIn (replyOf s c)) (agreedIn (replies (perform s c .after) calls))
+    ∙ ap (λ l. s .list ++ l) (sym (agreed-append (replyOf s c) (replies (perform s c .after) calls)))
