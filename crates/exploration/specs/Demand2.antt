@@ -13,6 +13,7 @@ use Rattle.context.specs.Tables.{Table, AgreesObject, AgreesImplication}
 use Rattle.exploration.specs.Checks.{State, firstFailing, sessionChecks, yesChecks, noChecks, force, question}
 use Rattle.exploration.specs.Machine.{Call, accept, reject, refused, perform}
 use Rattle.exploration.specs.Replies.{Reply, agreed, offered, AgreesReply}
+pub mod Calls
 pub mod Theorem
 
 -- the call is refused with 11, at some place

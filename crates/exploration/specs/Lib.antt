@@ -4,3 +4,6 @@ pub mod Marked
 pub mod Replies
 pub mod Demand2
 pub mod Demand3
+pub mod Session
+pub mod Replay
+pub mod Interview
