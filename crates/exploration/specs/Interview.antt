@@ -11,10 +11,10 @@ use Rattle.theory.specs.Lists.{All}
 use Rattle.theory.specs.Implications.{Implication}
 use Rattle.implication.specs.Closure.{implicationsOf, follows}
 use Rattle.context.specs.Objects.{Object, objectsOf, refutes}
-use Rattle.exploration.specs.Checks.{State}
-use Rattle.exploration.specs.Machine.{Call, run, opened}
-use Rattle.exploration.specs.Replies.{agreedIn, offeredIn, replies, Truthful}
-use Rattle.exploration.specs.Demand3.{Finished, OverM, SameConsequences}
+use Rattle.machine.specs.Checks.{State}
+use Rattle.machine.specs.Machine.{Call, run, opened}
+use Rattle.machine.specs.Replies.{agreedIn, offeredIn, replies, Truthful}
+use Rattle.machine.specs.Demand3.{Finished, OverM, SameConsequences}
 use Rattle.exploration.specs.Session.{stateOf, openingFrom}
 use Rattle.exploration.specs.Replay.{known, answersOf, logOf, PastKept, wordsOf, Made}
 use Rattle.exploration.specs.declared.Session.{Session}

@@ -1,9 +1,4 @@
-pub mod Checks
-pub mod Machine
-pub mod Marked
-pub mod Replies
-pub mod Demand2
-pub mod Demand3
 pub mod Session
+pub mod Contradiction
 pub mod Replay
 pub mod Interview

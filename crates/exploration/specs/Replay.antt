@@ -9,8 +9,8 @@ use lib.ListN.{length, getD, drop}
 use lib.Dec.{eqb}
 use Rattle.implication.specs.Closure.{implication}
 use Rattle.context.specs.Objects.{object}
-use Rattle.exploration.specs.Checks.{State}
-use Rattle.exploration.specs.Machine.{Call, step, accept, reject, follow, refute, Answer, finished, moved, asked, taken, followed, refuted, unrefuted, refused, perform, run}
+use Rattle.machine.specs.Checks.{State}
+use Rattle.machine.specs.Machine.{Call, step, accept, reject, follow, refute, Answer, finished, moved, asked, taken, followed, refuted, unrefuted, refused, perform, run}
 use Rattle.exploration.specs.Session.{stateOf}
 use Rattle.exploration.specs.declared.Session.{Session}
 use Rattle.exploration.specs.declared.Log.{Log}

@@ -13,8 +13,8 @@ ghost use Rattle.implication.specs.Closure.{implication, inForce};
 ghost use Rattle.context.specs.Places.{lowest, anywhere};
 ghost use Rattle.context.specs.Objects.{object, objectsOf, markedTwice, contradicts};
 ghost use Rattle.context.specs.Reach.{reach};
-ghost use Rattle.exploration.specs.Checks.{badLength, outsideM, firstFailing, sessionChecks, yesChecks, noChecks, question};
-ghost use Rattle.exploration.specs.Machine.{step as stepping, accept, reject, follow, refute, checksOf, perform};
+ghost use Rattle.machine.specs.Checks.{badLength, outsideM, firstFailing, sessionChecks, yesChecks, noChecks, question};
+ghost use Rattle.machine.specs.Machine.{step as stepping, accept, reject, follow, refute, checksOf, perform};
 ghost use Rattle.exploration.specs.Replay.{callOf, coded, codeOf, replayCode, replayAfter, PastKept, wordsOf, ReplaySays};
 ghost use Rattle.exploration.specs.Session.{stateOf, verdictOf, strangePair, standingAt, stepAnswer, replyAnswer, followingAnswer, refutingAnswer, openingOf, openingFrom, fitChecks, joinChecks, askingOf, askingAt, listAfter, rowsAfter};
 

@@ -3,7 +3,7 @@ use mathlib.Core.Path.{_≡_, sym, ap, _∙_}
 use mathlib.Core.List.{[]}
 use mathlib.Core.Option.{none}
 use borrow.Author.Needs.{needs}
-use Rattle.exploration.specs.Checks.{State, firstFailing, sessionChecks, reachOf, force}
+use Rattle.machine.specs.Checks.{State, firstFailing, sessionChecks, reachOf, force}
 use Rattle.exploration.specs.Session.{stateOf, verdictOf, standingAt}
 use Rattle.exploration.specs.Session.Laws.{unasked, checked-small}
 use Rattle.exploration.specs.Session.Turns.{askFrom, asking-stood, asking-refused}

@@ -1,7 +1,7 @@
 -- The two tests are those of the definition, and the second is made only where the length is even.
 use borrow.Author.Needs.{needs}
 use borrow.Author.Tests.{eq-eqb, ne-eqb}
-use Rattle.exploration.specs.Checks.{badLength}
+use Rattle.machine.specs.Checks.{badLength}
 use Rattle.exploration.proofs.bad_length.Statement.{statement}
 use Rattle.exploration.proofs.bad_length.Tie as tie
 

@@ -12,8 +12,8 @@ use Rattle.theory.specs.Implications.{Implication}
 use Rattle.implication.specs.Pairs.Laws.{length-pairs}
 use Rattle.implication.specs.Closure.{implication}
 use Rattle.context.specs.Objects.{object}
-use Rattle.exploration.specs.Checks.{State, Check, firstFailing, sessionChecks}
-use Rattle.exploration.specs.Checks.Laws.{passed, failing-nothing, failing-here, failing-later, failing-append}
+use Rattle.machine.specs.Checks.{State, Check, firstFailing, sessionChecks}
+use Rattle.machine.specs.Checks.Laws.{passed, failing-nothing, failing-here, failing-later, failing-append}
 use Rattle.exploration.specs.Session.{stateOf, verdictOf}
 use Rattle.exploration.specs.Session.Laws.{failing-first, sizes-fit}
 use Rattle.exploration.proofs.checked.Statement.{statement}

@@ -14,8 +14,8 @@ use Rattle.implication.specs.Pairs.Laws.{length-pairs}
 use Rattle.implication.specs.Closure.{implication, inForce}
 use Rattle.context.specs.Objects.{Object, object, refutes, markedTwice, contradicts}
 use Rattle.context.specs.Objects.Laws.{has-written, lacks-written, refutes-taken, refutes-left, spares, apart-marked}
-use Rattle.exploration.specs.Checks.{Check, firstFailing, strangeObject}
-use Rattle.exploration.specs.Checks.Laws.{failing-nothing, failing-here, failing-later}
+use Rattle.machine.specs.Checks.{Check, firstFailing, strangeObject}
+use Rattle.machine.specs.Checks.Laws.{failing-nothing, failing-here, failing-later}
 use Rattle.exploration.specs.Session.{stateOf, strangePair, fitChecks}
 use Rattle.exploration.proofs.fitting.Statement.{statement}
 use Rattle.exploration.proofs.fitting.Tie as tie

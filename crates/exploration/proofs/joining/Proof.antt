@@ -12,7 +12,7 @@ use Rattle.implication.specs.Pairs.Laws.{length-pairs}
 use Rattle.implication.specs.Closure.{implication, inForce}
 use Rattle.context.specs.Places.{anywhere}
 use Rattle.context.specs.Objects.{object, objectsOf, contradicts}
-use Rattle.exploration.specs.Checks.Laws.{failing-nothing, failing-here, failing-later}
+use Rattle.machine.specs.Checks.Laws.{failing-nothing, failing-here, failing-later}
 use Rattle.exploration.specs.Session.{joinChecks}
 use Rattle.exploration.specs.Session.Laws.{anywhere-at, anywhere-none}
 use Rattle.exploration.proofs.joining.Statement.{statement}

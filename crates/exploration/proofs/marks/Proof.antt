@@ -9,8 +9,8 @@ use Rattle.theory.specs.Implications.{Implication}
 use Rattle.implication.specs.Closure.{inForce}
 use Rattle.context.specs.Places.{lowest}
 use Rattle.context.specs.Objects.{object, objectsOf, markedTwice, contradicts}
-use Rattle.exploration.specs.Checks.{Refusal, sessionChecks}
-use Rattle.exploration.specs.Checks.Laws.{none-failing, failing-here, failing-later}
+use Rattle.machine.specs.Checks.{Refusal, sessionChecks}
+use Rattle.machine.specs.Checks.Laws.{none-failing, failing-here, failing-later}
 use Rattle.exploration.specs.Session.Laws.{lowest-from, anywhere-at, anywhere-none, lowest-idle, marked-later}
 use Rattle.exploration.proofs.marks.Statement.{statement}
 use Rattle.exploration.proofs.marks.Tie as tie

@@ -10,7 +10,7 @@ use Rattle.attribute_set.specs.Sets.{full, inside}
 use Rattle.implication.specs.Pairs.{pairs}
 use Rattle.implication.specs.Closure.{implication}
 use Rattle.context.specs.Places.{anywhere}
-use Rattle.exploration.specs.Checks.{outsideM}
+use Rattle.machine.specs.Checks.{outsideM}
 use Rattle.exploration.specs.Session.{stateOf, strangePair}
 use Rattle.exploration.specs.Session.Laws.{outside-parts}
 use Rattle.exploration.proofs.outside.Statement.{statement}

@@ -4,7 +4,7 @@ use Prim.Native.Nat.{ℕ}
 use borrow.Author.Needs.{needs}
 use Rattle.implication.specs.Closure.{implication}
 use Rattle.context.specs.Objects.{object}
-use Rattle.exploration.specs.Machine.{step, accept, reject, follow, refute}
+use Rattle.machine.specs.Machine.{step, accept, reject, follow, refute}
 use Rattle.exploration.specs.Session.{stateOf}
 use Rattle.exploration.specs.Replay.{callOf, replayCode, replayAfter}
 use Rattle.exploration.specs.Replay.Laws.{call-unknown, still-past, replayed}

@@ -2,7 +2,7 @@
 use borrow.Author.Needs.{needs}
 use borrow.Author.Tests.{eq-eqb, ne-eqb, lt-ltb, le-ltb}
 use Rattle.implication.specs.Pairs.Laws.{length-pairs}
-use Rattle.exploration.specs.Checks.{firstFailing, sessionChecks}
+use Rattle.machine.specs.Checks.{firstFailing, sessionChecks}
 use Rattle.exploration.proofs.sizes.Statement.{statement}
 use Rattle.exploration.proofs.sizes.Tie as tie
 

@@ -9,10 +9,10 @@ use lib.ListN.{length}
 use Rattle.implication.specs.Pairs.Laws.{length-pairs}
 use Rattle.implication.specs.Closure.{implication, follows}
 use Rattle.context.specs.Objects.{objectsOf}
-use Rattle.exploration.specs.Checks.{Lent, State}
-use Rattle.exploration.specs.Machine.{run}
-use Rattle.exploration.specs.Demand3.{Finished, Unrefuted, AfterCalls}
-use Rattle.exploration.specs.Demand3.Theorem.{demand-3}
+use Rattle.machine.specs.Checks.{Lent, State}
+use Rattle.machine.specs.Machine.{run}
+use Rattle.machine.specs.Demand3.{Finished, Unrefuted, AfterCalls}
+use Rattle.machine.specs.Demand3.Theorem.{demand-3}
 use Rattle.exploration.specs.Interview.{Interview, opening-state, end-state, script, rules, end-list, Demand3Whole, SameListWhole}
 
 module _ {n : ℕ} {background : List ℕ} (i : Interview n background) where

@@ -11,9 +11,9 @@ use borrow.Author.Tests.{ne-eqb}
 use Rattle.implication.specs.Pairs.Laws.{length-pairs}
 use Rattle.implication.specs.Closure.{implication}
 use Rattle.context.specs.Objects.{object}
-use Rattle.exploration.specs.Checks.{State, Refusal, question}
-use Rattle.exploration.specs.Machine.{Call, step, accept, reject, follow, refute, Answer, refused, Turn, turn, performed, perform}
-use Rattle.exploration.specs.Machine.Laws.{perform-cases, step-cases}
+use Rattle.machine.specs.Checks.{State, Refusal, question}
+use Rattle.machine.specs.Machine.{Call, step, accept, reject, follow, refute, Answer, refused, Turn, turn, performed, perform}
+use Rattle.machine.specs.Machine.Laws.{perform-cases, step-cases}
 use Rattle.exploration.specs.Session.{stateOf, putPair}
 use Rattle.exploration.specs.declared.Session.{Session}
 use Rattle.exploration.specs.Replay.{callOf, Coded, codeOf, replayCode, replayAfter, PastKept}

@@ -9,8 +9,8 @@ use native.Mathlib.Omega.{arith}
 use native.Mathlib.Nat.{sub-zero}
 use lib.ListN.{length, getD, take, drop, set, length-set, take-append-drop}
 use lib.Seq.{getD-drop, drop-drop, take-suc-set, drop-set-lt}
-use Rattle.exploration.specs.Checks.{State}
-use Rattle.exploration.specs.Machine.{Call, run}
+use Rattle.machine.specs.Checks.{State}
+use Rattle.machine.specs.Machine.{Call, run}
 use Rattle.exploration.specs.Session.{stateOf}
 use Rattle.exploration.specs.Replay.{callOf, callsOf, Coded, replayCode, replayAfter, known, answersOf, PastKept, Words, wordsOf, logOf, Made}
 use Rattle.exploration.specs.declared.Session.{Session}

@@ -18,10 +18,10 @@ use Rattle.implication.specs.Pairs.Laws.{pairs-put}
 use Rattle.implication.specs.Closure.{implication, implicationsOf, inForce, closure}
 use Rattle.implication.specs.Next.{next}
 use Rattle.context.specs.Objects.{Object, object, objectsOf}
-use Rattle.exploration.specs.Checks.{State, Refusal, Check, check, firstFailing, sessionChecks, yesChecks, noChecks, questionStands, question, reachOf, force, withQuestion}
-use Rattle.exploration.specs.Checks.Laws.{passed, failing-append, failing-here, failing-later, failing-nothing, passed-append, none-failing}
-use Rattle.exploration.specs.Machine.{Call, step, accept, reject, follow, refute, Answer, finished, moved, asked, taken, refused, Turn, turn, moveTo, afterYes, afterNo, performStep, performed, checksOf, perform, openingState}
-use Rattle.exploration.specs.Machine.Laws.{perform-refused, perform-accepted}
+use Rattle.machine.specs.Checks.{State, Refusal, Check, check, firstFailing, sessionChecks, yesChecks, noChecks, questionStands, question, reachOf, force, withQuestion}
+use Rattle.machine.specs.Checks.Laws.{passed, failing-append, failing-here, failing-later, failing-nothing, passed-append, none-failing}
+use Rattle.machine.specs.Machine.{Call, step, accept, reject, follow, refute, Answer, finished, moved, asked, taken, refused, Turn, turn, moveTo, afterYes, afterNo, performStep, performed, checksOf, perform, openingState}
+use Rattle.machine.specs.Machine.Laws.{perform-refused, perform-accepted}
 use Rattle.exploration.specs.declared.Session.{Session}
 use Rattle.exploration.specs.declared.Standing.{Standing}
 use Rattle.exploration.specs.declared.Standing.the-variants.{Full, Tight, Open}

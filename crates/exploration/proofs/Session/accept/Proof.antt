@@ -12,8 +12,8 @@ use Rattle.theory.specs.Implications.{Implication}
 use Rattle.implication.specs.Pairs.Laws.{length-pairs}
 use Rattle.implication.specs.Closure.{implication}
 use Rattle.context.specs.Objects.{object}
-use Rattle.exploration.specs.Checks.{State, Refusal, firstFailing}
-use Rattle.exploration.specs.Machine.{accept, refused, Turn, turn, perform}
+use Rattle.machine.specs.Checks.{State, Refusal, firstFailing}
+use Rattle.machine.specs.Machine.{accept, refused, Turn, turn, perform}
 use Rattle.exploration.specs.Session.{stateOf, verdictOf, joinChecks, askingOf, askingAt}
 use Rattle.exploration.specs.Session.Turns.{accept-unasked, accept-refused, accept-taken, asked-question, asked-small, join-place, yes-holds, list-kept, list-written}
 use Rattle.exploration.proofs.Session.accept.Statement.{statement}

@@ -2,9 +2,9 @@
 use mathlib.Core.Path.{_≡_, sym, ap, _∙_}
 use borrow.Author.Needs.{needs}
 use Rattle.implication.specs.Closure.{implication}
-use Rattle.exploration.specs.Checks.{State}
-use Rattle.exploration.specs.Machine.{Call, turn, follow, followed, checksOf, performed, perform}
-use Rattle.exploration.specs.Machine.Laws.{perform-accepted}
+use Rattle.machine.specs.Checks.{State}
+use Rattle.machine.specs.Machine.{Call, turn, follow, followed, checksOf, performed, perform}
+use Rattle.machine.specs.Machine.Laws.{perform-accepted}
 use Rattle.exploration.specs.Session.{stateOf, verdictOf}
 use Rattle.exploration.specs.Session.Turns.{session-refused}
 use Rattle.exploration.proofs.Session.follows.Statement.{statement}

@@ -6,8 +6,8 @@ use lib.ListN.{length}
 use borrow.Author.Needs.{needs}
 use Rattle.implication.specs.Closure.{implicationsOf}
 use Rattle.context.specs.Objects.{objectsOf}
-use Rattle.exploration.specs.Checks.{State, firstFailing, sessionChecks}
-use Rattle.exploration.specs.Machine.{opened, opening, openingState}
+use Rattle.machine.specs.Checks.{State, firstFailing, sessionChecks}
+use Rattle.machine.specs.Machine.{opened, opening, openingState}
 use Rattle.exploration.specs.Session.{stateOf, verdictOf}
 use Rattle.exploration.specs.Session.Laws.{unasked}
 use Rattle.exploration.specs.Session.Turns.{opening-state}

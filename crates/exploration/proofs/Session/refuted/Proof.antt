@@ -5,9 +5,9 @@ use borrow.Author.Tests.{lt-ltb, le-ltb}
 use Rattle.implication.specs.Pairs.Laws.{length-pairs}
 use Rattle.implication.specs.Closure.{implication}
 use Rattle.context.specs.Objects.{object}
-use Rattle.exploration.specs.Checks.{State, force}
-use Rattle.exploration.specs.Machine.{Call, turn, refute, refutedAt, checksOf, performed, perform}
-use Rattle.exploration.specs.Machine.Laws.{perform-accepted}
+use Rattle.machine.specs.Checks.{State, force}
+use Rattle.machine.specs.Machine.{Call, turn, refute, refutedAt, checksOf, performed, perform}
+use Rattle.machine.specs.Machine.Laws.{perform-accepted}
 use Rattle.exploration.specs.Session.{stateOf, verdictOf}
 use Rattle.exploration.specs.Session.Turns.{session-refused}
 use Rattle.exploration.proofs.Session.refuted.Statement.{statement}

@@ -11,8 +11,8 @@ use Rattle.theory.specs.Implications.{Implication}
 use Rattle.implication.specs.Pairs.Laws.{length-pairs}
 use Rattle.implication.specs.Closure.{implication}
 use Rattle.context.specs.Objects.{Object, object}
-use Rattle.exploration.specs.Checks.{State, firstFailing}
-use Rattle.exploration.specs.Machine.{Turn}
+use Rattle.machine.specs.Checks.{State, firstFailing}
+use Rattle.machine.specs.Machine.{Turn}
 use Rattle.exploration.specs.Session.{stateOf, verdictOf, fitChecks, askingOf, askingAt}
 use Rattle.exploration.specs.Session.Turns.{reject-unasked, reject-refused, reject-taken, asked-small, fit-place, no-holds, rows-kept, rows-written}
 use Rattle.exploration.proofs.Session.reject.Statement.{statement}

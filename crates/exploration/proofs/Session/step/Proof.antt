@@ -6,8 +6,8 @@ use Prim.Native.Nat.{ℕ, min}
 use native.Mathlib.Omega.{arith}
 use borrow.Author.Needs.{needs}
 use Rattle.implication.specs.Next.{next}
-use Rattle.exploration.specs.Checks.{State, firstFailing, sessionChecks, reachOf, force}
-use Rattle.exploration.specs.Machine.{step, Turn, moveTo, perform}
+use Rattle.machine.specs.Checks.{State, firstFailing, sessionChecks, reachOf, force}
+use Rattle.machine.specs.Machine.{step, Turn, moveTo, perform}
 use Rattle.exploration.specs.Session.{stateOf, verdictOf, standingAt}
 use Rattle.exploration.specs.Session.Laws.{unasked, checked-small}
 use Rattle.exploration.specs.Session.Turns.{session-refused, stepFrom, step-taken}

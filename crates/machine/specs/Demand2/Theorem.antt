@@ -24,12 +24,12 @@ use Rattle.context.specs.Objects.{Object, refutes, contradicts}
 use Rattle.context.specs.Reach.Laws.{reach-inside}
 use Rattle.context.specs.Tables.{Complete, Table, AgreesObject, AgreesImplication, completed}
 use Rattle.context.specs.Tables.Laws.{completed-complete, completes, completed-agrees, no-contradiction}
-use Rattle.exploration.specs.Checks.{State, Check, Refusal, check, firstFailing, sessionChecks, yesChecks, noChecks, force, reachOf, question, withQuestion, strangeObject}
-use Rattle.exploration.specs.Checks.Laws.{Passed, passed, passed-append, failing-append, failing-nothing, failing-here, failing-later, or-false, InM, familiar-object, Valid, valid}
-use Rattle.exploration.specs.Machine.{Call, accept, reject, Answer, taken, refused, Turn, performed, checksOf, perform}
-use Rattle.exploration.specs.Machine.Laws.{perform-refused, perform-accepted}
-use Rattle.exploration.specs.Replies.{agreed, offered}
-use Rattle.exploration.specs.Demand2.{Refused11, Agrees, Contradictory, YesUpTo11, NoUpTo11, Demand2}
+use Rattle.machine.specs.Checks.{State, Check, Refusal, check, firstFailing, sessionChecks, yesChecks, noChecks, force, reachOf, question, withQuestion, strangeObject}
+use Rattle.machine.specs.Checks.Laws.{Passed, passed, passed-append, failing-append, failing-nothing, failing-here, failing-later, or-false, InM, familiar-object, Valid, valid}
+use Rattle.machine.specs.Machine.{Call, accept, reject, Answer, taken, refused, Turn, performed, checksOf, perform}
+use Rattle.machine.specs.Machine.Laws.{perform-refused, perform-accepted}
+use Rattle.machine.specs.Replies.{agreed, offered}
+use Rattle.machine.specs.Demand2.{Refused11, Agrees, Contradictory, YesUpTo11, NoUpTo11, Demand2}
 
 -- ---- refused with 11: where 11 is the last but one check and those before it pass
 

@@ -11,8 +11,8 @@ use Rattle.theory.specs.Implications.{Implication}
 use Rattle.attribute_set.specs.Sets.{full}
 use Rattle.implication.specs.Next.{next}
 use Rattle.context.specs.Objects.{Object}
-use Rattle.exploration.specs.Checks.{Lent, State, Refusal, firstFailing, sessionChecks, force, reachOf, question}
-use Rattle.exploration.specs.Machine.{Call, step, Answer, finished, moved, asked, refused, Turn, turn, moveTo, performStep, performed, checksOf, perform, Opening, opened, rejected, opening, openingState}
+use Rattle.machine.specs.Checks.{Lent, State, Refusal, firstFailing, sessionChecks, force, reachOf, question}
+use Rattle.machine.specs.Machine.{Call, step, Answer, finished, moved, asked, refused, Turn, turn, moveTo, performStep, performed, checksOf, perform, Opening, opened, rejected, opening, openingState}
 
 module _ (s : State) (c : Call) where
   pub perform-cases : (P : Turn → Type 0) → (firstFailing (checksOf s c) ≡ none → P (performed s c))

@@ -28,10 +28,10 @@ use Rattle.context.specs.Objects.{Object, has, lacks, contradicts}
 use Rattle.context.specs.Objects.Laws.{consistent-apart, has-more, lacks-more}
 use Rattle.context.specs.Reach.{reach}
 use Rattle.context.specs.Reach.Laws.{reach-great, reach-inside, reach-snoc, reach-more}
-use Rattle.exploration.specs.Checks.{Lent, State, force, reachOf, question, withQuestion, firstFailing, sessionChecks, yesChecks, noChecks}
-use Rattle.exploration.specs.Checks.Laws.{passed, passed-append, Valid, valid, Stands, stands}
-use Rattle.exploration.specs.Machine.{Call, step, accept as accepting, reject, follow, refute, Turn, moveTo, afterYes, afterNo, performed, checksOf, perform, run, opening, opened, openingState}
-use Rattle.exploration.specs.Machine.Laws.{perform-cases, step-cases, opened-is}
+use Rattle.machine.specs.Checks.{Lent, State, force, reachOf, question, withQuestion, firstFailing, sessionChecks, yesChecks, noChecks}
+use Rattle.machine.specs.Checks.Laws.{passed, passed-append, Valid, valid, Stands, stands}
+use Rattle.machine.specs.Machine.{Call, step, accept as accepting, reject, follow, refute, Turn, moveTo, afterYes, afterNo, performed, checksOf, perform, run, opening, opened, openingState}
+use Rattle.machine.specs.Machine.Laws.{perform-cases, step-cases, opened-is}
 
 -- the sets of the background
 abbrev pub Base : State → ℕ → Type 0

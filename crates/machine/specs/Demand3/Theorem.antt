@@ -27,13 +27,13 @@ use Rattle.context.specs.Reach.{reach}
 use Rattle.context.specs.Reach.Laws.{reach-great}
 use Rattle.context.specs.Tables.{Table, AgreesImplication, AgreesObject}
 use Rattle.context.specs.Tables.Laws.{follows-tables, refutes-extended}
-use Rattle.exploration.specs.Checks.{Lent, State, force}
-use Rattle.exploration.specs.Machine.{Call, run, opening, opened, openingState}
-use Rattle.exploration.specs.Machine.Laws.{finished-full, opened-is}
-use Rattle.exploration.specs.Replies.{Reply, agreed, offered, agreedIn, offeredIn, replies, AgreesReply, Truthful}
-use Rattle.exploration.specs.Replies.Laws.{run-same, run-rows, run-list}
-use Rattle.exploration.specs.Demand3.{Finished, OverM, Unrefuted, SameConsequences, AfterCalls, SameList, Demand3}
-use Rattle.exploration.specs.Demand3.Invariant.{Base, Reached, run-reached, opened-reached}
+use Rattle.machine.specs.Checks.{Lent, State, force}
+use Rattle.machine.specs.Machine.{Call, run, opening, opened, openingState}
+use Rattle.machine.specs.Machine.Laws.{finished-full, opened-is}
+use Rattle.machine.specs.Replies.{Reply, agreed, offered, agreedIn, offeredIn, replies, AgreesReply, Truthful}
+use Rattle.machine.specs.Replies.Laws.{run-same, run-rows, run-list}
+use Rattle.machine.specs.Demand3.{Finished, OverM, Unrefuted, SameConsequences, AfterCalls, SameList, Demand3}
+use Rattle.machine.specs.Demand3.Invariant.{Base, Reached, run-reached, opened-reached}
 
 -- the same implications follow: the same sets lie in the closures
 consequences : (n : ℕ) (background l l′ : List (Implication ℕ)) → SameConsequences n background l l′

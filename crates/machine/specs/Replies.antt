@@ -8,8 +8,8 @@ use Rattle.theory.specs.Lists.{All}
 use Rattle.theory.specs.Implications.{Implication}
 use Rattle.context.specs.Objects.{Object}
 use Rattle.context.specs.Tables.{Table, AgreesObject, AgreesImplication}
-use Rattle.exploration.specs.Checks.{State, Refusal}
-use Rattle.exploration.specs.Machine.{Call, step, accept, reject, follow, refute, Answer, finished, moved, asked, taken, followed, refuted, unrefuted, refused, perform, run}
+use Rattle.machine.specs.Checks.{State, Refusal}
+use Rattle.machine.specs.Machine.{Call, step, accept, reject, follow, refute, Answer, finished, moved, asked, taken, followed, refuted, unrefuted, refused, perform, run}
 pub mod Laws
 
 -- an accepted reply: the question that a yes agreed to, or the object that a no offered

@@ -6,9 +6,9 @@ use Rattle.implication.specs.Next.{nextBelow}
 use Rattle.context.specs.Places.{lowest, anywhere}
 use Rattle.context.specs.Objects.{has, lacks, refutes, markedTwice, contradicts}
 use Rattle.context.specs.Reach.{cut, narrow, reach}
-use Rattle.exploration.specs.Checks.{questionStands, firstFailing, badLength, strangeObject, strangeImplication, outsideM, sessionChecks, yesChecks, noChecks}
-use Rattle.exploration.specs.Machine.{performStep, performed, checksOf, perform, opening}
-use Rattle.exploration.specs.Marked.{Marked}
+use Rattle.machine.specs.Checks.{questionStands, firstFailing, badLength, strangeObject, strangeImplication, outsideM, sessionChecks, yesChecks, noChecks}
+use Rattle.machine.specs.Machine.{performStep, performed, checksOf, perform, opening}
+use Rattle.machine.specs.Marked.{Marked}
 
 pub marked : Marked
 unfolding full without inside meets fire pass close closure nextBelow lowest anywhere has lacks refutes markedTwice contradicts cut narrow reach questionStands firstFailing badLength strangeObject strangeImplication outsideM sessionChecks yesChecks noChecks performStep performed checksOf perform opening

@@ -10,10 +10,9 @@ use lib.ListN.{take}
 use Rattle.theory.specs.Lists.{All}
 use Rattle.context.specs.Objects.{Object}
 use Rattle.context.specs.Tables.{Table, AgreesObject, AgreesImplication}
-use Rattle.exploration.specs.Checks.{State, firstFailing, sessionChecks, yesChecks, noChecks, force, question}
-use Rattle.exploration.specs.Machine.{Call, accept, reject, refused, perform}
-use Rattle.exploration.specs.Replies.{Reply, agreed, offered, AgreesReply}
-pub mod Calls
+use Rattle.machine.specs.Checks.{State, firstFailing, sessionChecks, yesChecks, noChecks, force, question}
+use Rattle.machine.specs.Machine.{Call, accept, reject, refused, perform}
+use Rattle.machine.specs.Replies.{Reply, agreed, offered, AgreesReply}
 pub mod Theorem
 
 -- the call is refused with 11, at some place

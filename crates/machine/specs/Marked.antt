@@ -9,8 +9,8 @@ use Rattle.implication.specs.Closure.{implication, closure}
 use Rattle.implication.specs.Next.{next}
 use Rattle.context.specs.Objects.{object}
 use Rattle.context.specs.Reach.{reach}
-use Rattle.exploration.specs.Checks.{Lent, State, reachOf}
-use Rattle.exploration.specs.Machine.{step, accept, reject, finished, taken, refused, perform, opening, opened, openingState}
+use Rattle.machine.specs.Checks.{Lent, State, reachOf}
+use Rattle.machine.specs.Machine.{step, accept, reject, finished, taken, refused, perform, opening, opened, openingState}
 pub mod Proof
 
 -- all places lent, and one background implication

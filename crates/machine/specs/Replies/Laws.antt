@@ -10,11 +10,11 @@ use lib.Dec.{ltb}
 use borrow.Author.Tests.{not-false}
 use Rattle.theory.specs.Implications.{Implication}
 use Rattle.implication.specs.Closure.{follows}
-use Rattle.exploration.specs.Checks.{State, force, question, firstFailing, sessionChecks, yesChecks}
-use Rattle.exploration.specs.Checks.Laws.{passed-append, none-failing, Stands, stands}
-use Rattle.exploration.specs.Machine.{Call, step, accept, reject, follow, refute, Answer, finished, moved, asked, followed, refuted, unrefuted, refused, Turn, turn, performed, checksOf, perform, run, refutedAt}
-use Rattle.exploration.specs.Machine.Laws.{perform-cases, perform-accepted, step-cases}
-use Rattle.exploration.specs.Replies.{Reply, agreed, offered, askedBy, questionAt, isTaken, agreedTo, madeBy, replyOf, replies, agreedIn, offeredIn}
+use Rattle.machine.specs.Checks.{State, force, question, firstFailing, sessionChecks, yesChecks}
+use Rattle.machine.specs.Checks.Laws.{passed-append, none-failing, Stands, stands}
+use Rattle.machine.specs.Machine.{Call, step, accept, reject, follow, refute, Answer, finished, moved, asked, followed, refuted, unrefuted, refused, Turn, turn, performed, checksOf, perform, run, refutedAt}
+use Rattle.machine.specs.Machine.Laws.{perform-cases, perform-accepted, step-cases}
+use Rattle.machine.specs.Replies.{Reply, agreed, offered, askedBy, questionAt, isTaken, agreedTo, madeBy, replyOf, replies, agreedIn, offeredIn}
 
 -- ---- what no call alters
 

@@ -12,9 +12,9 @@ use Rattle.attribute_set.specs.Sets.{full}
 use Rattle.attribute_set.specs.Words.{words}
 use Rattle.implication.specs.Closure.{follows}
 use Rattle.context.specs.Objects.{Object, refutes}
-use Rattle.exploration.specs.Checks.{Lent, State, force}
-use Rattle.exploration.specs.Machine.{Call, step, finished, perform, run, opening, opened}
-use Rattle.exploration.specs.Replies.{agreedIn, offeredIn, replies, Truthful}
+use Rattle.machine.specs.Checks.{Lent, State, force}
+use Rattle.machine.specs.Machine.{Call, step, finished, perform, run, opening, opened}
+use Rattle.machine.specs.Replies.{agreedIn, offeredIn, replies, Truthful}
 pub mod Invariant
 pub mod Theorem
 

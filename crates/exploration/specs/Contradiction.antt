@@ -5,11 +5,11 @@ use mathlib.Core.Logic.{_↔_}
 use mathlib.Core.List.{List}
 use Prim.Native.Nat.{ℕ}
 use Rattle.context.specs.Objects.{object}
-use Rattle.exploration.specs.Checks.{question}
-use Rattle.exploration.specs.Machine.{Answer, accept, reject, refused, perform}
-use Rattle.exploration.specs.Replies.{agreed, offered}
-use Rattle.exploration.specs.Demand2.{Contradictory, YesUpTo11, NoUpTo11}
-use Rattle.exploration.specs.Demand2.Theorem.{demand-2}
+use Rattle.machine.specs.Checks.{question}
+use Rattle.machine.specs.Machine.{Answer, accept, reject, refused, perform}
+use Rattle.machine.specs.Replies.{agreed, offered}
+use Rattle.machine.specs.Demand2.{Contradictory, YesUpTo11, NoUpTo11}
+use Rattle.machine.specs.Demand2.Theorem.{demand-2}
 use Rattle.exploration.specs.Session.{stateOf, replyAnswer}
 use Rattle.exploration.specs.declared.Session.{Session}
 use Rattle.exploration.specs.declared.Reply.{Reply}

@@ -1,0 +1,6 @@
+pub mod Checks
+pub mod Machine
+pub mod Marked
+pub mod Replies
+pub mod Demand2
+pub mod Demand3

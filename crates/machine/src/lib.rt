@@ -1,0 +1,1 @@
+// The plain machine and its theorems have no code: they stand in specs/.
