@@ -6,7 +6,7 @@ use mathlib.Core.List.{List}
 use Prim.Native.Nat.{ℕ}
 use Rattle.context.specs.Objects.{object}
 use Rattle.machine.specs.Checks.{question}
-use Rattle.machine.specs.Machine.{Answer, accept, reject, refused, perform}
+use Rattle.machine.specs.Machine.{accept, reject, refused, perform}
 use Rattle.machine.specs.Replies.{agreed, offered}
 use Rattle.machine.specs.Demand2.{Contradictory, YesUpTo11, NoUpTo11}
 use Rattle.machine.specs.Demand2.Theorem.{demand-2}

@@ -1,7 +1,7 @@
 -- Logs of an interview: calls as three words each (kind, two arguments), answers as three words each (code, two values), and
 -- what the plain machine makes of a log. An unknown kind gets a code of its own and changes nothing.
 use mathlib.Core.Path.{_≡_}
-use mathlib.Core.Bool.{Bool, true, false}
+use mathlib.Core.Bool.{true, false}
 use mathlib.Core.List.{List, [], _∷_, _++_}
 use mathlib.Core.Option.{Option, none, some}
 use Prim.Native.Nat.{ℕ, zero, suc, _*_, _/_, _≤_, _<_}

@@ -1,20 +1,18 @@
 // The session: an interview over a table with unknown marks, one call at a time. Every call takes the record by value and the
 // lent words (row words, list words, background words), runs checks 1 to 7 of document 01, and gives the record back.
 ghost use mathlib.Core.Path.{_≡_};
-ghost use mathlib.Core.Bool.{Bool, _||_, not};
+ghost use mathlib.Core.Bool.{Bool, _||_};
 ghost use mathlib.Core.List.{List, [], _∷_, _++_};
-ghost use mathlib.Core.Option.{some, none};
 ghost use Prim.Native.Nat.{ℕ, _+_, _-_, _*_, _/_, _≤_, _<_};
 ghost use lib.ListN.{length, take, drop};
 ghost use Rattle.theory.specs.Implications.{Implication};
-ghost use Rattle.attribute_set.specs.Sets.{full};
 ghost use Rattle.implication.specs.Pairs.{pairs};
 ghost use Rattle.implication.specs.Closure.{implication, inForce};
 ghost use Rattle.context.specs.Places.{lowest, anywhere};
 ghost use Rattle.context.specs.Objects.{object, objectsOf, markedTwice, contradicts};
 ghost use Rattle.context.specs.Reach.{reach};
-ghost use Rattle.machine.specs.Checks.{badLength, outsideM, firstFailing, sessionChecks, yesChecks, noChecks, question};
-ghost use Rattle.machine.specs.Machine.{step as stepping, accept, reject, follow, refute, checksOf, perform};
+ghost use Rattle.machine.specs.Checks.{mostAttributes, mostObjects, mostImplications, badLength, outsideM, firstFailing, sessionChecks};
+ghost use Rattle.machine.specs.Machine.{step as stepping, accept, reject, follow, refute, perform};
 ghost use Rattle.exploration.specs.Replay.{callOf, coded, codeOf, replayCode, replayAfter, PastKept, wordsOf, ReplaySays};
 ghost use Rattle.exploration.specs.Session.{stateOf, verdictOf, strangePair, standingAt, stepAnswer, replyAnswer, followingAnswer, refutingAnswer, openingOf, openingFrom, fitChecks, joinChecks, askingOf, askingAt, listAfter, rowsAfter};
 
@@ -105,7 +103,7 @@ pub enum Standing {
 
 // A lent length is odd, or above its limit.
 fn bad_length(words: usize, most: usize) -> bool
-    requires { ⌜ most ≤ 512 ⌝ }
+    requires { ⌜ most ≤ mostObjects ⌝ }
     ensures { λ r. ⌜ r ≡ badLength most words ⌝ }
 {
     if words % 2 != 0 {
@@ -116,7 +114,7 @@ fn bad_length(words: usize, most: usize) -> bool
 
 // Some lent length is bad.
 fn bad_lengths(rows: usize, list: usize, background: usize) -> bool
-    ensures { λ r. ⌜ r ≡ (badLength 512 rows || (badLength 256 list || badLength 256 background)) ⌝ }
+    ensures { λ r. ⌜ r ≡ (badLength mostObjects rows || (badLength mostImplications list || badLength mostImplications background)) ⌝ }
 {
     if bad_length(rows, Session::ROWS) {
         return true;
@@ -201,7 +199,7 @@ fn outside(
     premise: u64,
     conclusion: u64,
 ) -> bool
-    requires { ⌜ (session .n ≤ 64) × (session .rows * 2 ≤ length (now rows)) × (session .rules * 2 ≤ length (now list)) ⌝ }
+    requires { ⌜ (session .n ≤ mostAttributes) × (session .rows * 2 ≤ length (now rows)) × (session .rules * 2 ≤ length (now list)) ⌝ }
     ensures { λ r. ⌜ r ≡ outsideM (stateOf session (now (rows .entry)) (now (list .entry)) (now (background .entry))) (implication premise conclusion ∷ []) ⌝ }
 {
     let used = session.rows;
@@ -347,7 +345,7 @@ fn checked(
 
 // How the current set stands among n attributes.
 fn stand(n: usize, rows: &[u64], count: usize, current: u64) -> Standing
-    requires { ⌜ n ≤ 64 ⌝ }
+    requires { ⌜ n ≤ mostAttributes ⌝ }
     ensures { λ r. ⌜ ((rs : List (Implication ℕ)) → r ≡ standingAt n (reach rs n (objectsOf count (now (rows .entry))) current) current) ⌝ }
 {
     if current == attribute_set::full_set(n) {
@@ -373,7 +371,7 @@ fn fitting(
     yes: u64,
     no: u64,
 ) -> Verdict
-    requires { ⌜ session .n ≤ 64 ⌝ }
+    requires { ⌜ session .n ≤ mostAttributes ⌝ }
     ensures { λ r. ⌜ verdictOf r ≡ firstFailing (fitChecks (stateOf session (now (rows .entry)) (now (list .entry)) (now (background .entry))) (implication (question .premise) (question .conclusion)) (object yes no)) ⌝ }
 {
     let used = session.rows;

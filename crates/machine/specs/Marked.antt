@@ -1,9 +1,8 @@
 -- Document 01's marked cases a to l, one table. n = 3 unless said; the set {0, 2} is the word 5, and so on.
 -- `Marked.Proof` proves the whole table by computing the definitions.
 use mathlib.Core.Path.{_≡_}
-use mathlib.Core.List.{List, [], _∷_}
-use Prim.Native.Nat.{ℕ, _-_, _^_}
-use Rattle.theory.specs.Implications.{Implication}
+use mathlib.Core.List.{[], _∷_}
+use Prim.Native.Nat.{_-_, _^_}
 use Rattle.attribute_set.specs.Sets.{full}
 use Rattle.implication.specs.Closure.{implication, closure}
 use Rattle.implication.specs.Next.{next}

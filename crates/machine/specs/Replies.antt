@@ -1,5 +1,4 @@
 -- The accepted replies of a list of calls, and when a complete table is truthful to them (01, "The interview").
-use mathlib.Core.Path.{_≡_}
 use mathlib.Core.Bool.{Bool, true, false}
 use mathlib.Core.List.{List, [], _∷_, _++_}
 use mathlib.Core.Option.{Option, none, some}
@@ -8,7 +7,7 @@ use Rattle.theory.specs.Lists.{All}
 use Rattle.theory.specs.Implications.{Implication}
 use Rattle.context.specs.Objects.{Object}
 use Rattle.context.specs.Tables.{Table, AgreesObject, AgreesImplication}
-use Rattle.machine.specs.Checks.{State, Refusal}
+use Rattle.machine.specs.Checks.{State}
 use Rattle.machine.specs.Machine.{Call, step, accept, reject, follow, refute, Answer, finished, moved, asked, taken, followed, refuted, unrefuted, refused, perform, run}
 pub mod Laws
 

@@ -1,6 +1,5 @@
 -- The members of a that b lacks: the code is the definition.
 use mathlib.Core.Path.{refl}
-use native.Mathlib.Omega.{arith}
 use lib.Bits.{and-le-l}
 use Rattle.attribute_set.specs.Sets.{without}
 use Rattle.attribute_set.proofs.difference.Statement.{statement}

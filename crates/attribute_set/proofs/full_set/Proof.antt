@@ -1,5 +1,5 @@
 -- The set of all n attributes: 64 ones at the most.
-use mathlib.Core.Path.{_≡_, sym, ap, _∙_}
+use mathlib.Core.Path.{_≡_, ap}
 use Prim.Native.Nat.{_-_, min}
 use borrow.Author.Needs.{needs}
 use native.Mathlib.Omega.{arith}

@@ -1,13 +1,13 @@
 -- The lectic order is irreflexive, transitive and total, and a proper subset is earlier; then the laws of `raise`.
-use mathlib.Core.Path.{_≡_, refl, sym, ap, _∙_, subst}
+use mathlib.Core.Path.{_≡_, sym, ap, _∙_, subst}
 use mathlib.Core.Logic.{_⊎_, inl, inr, ⊎-elim}
 use Prim.Native.Nat.{ℕ, zero, suc, _+_, _-_, _*_, _/_, _%_, _^_, _≤_, _<_}
 use native.Mathlib.Nat.{mod-lt, mod-eq-of-lt, one-mul, lt-of-lt-of-le, pow-suc}
 use native.Mathlib.Omega.{arith}
 use lib.Pow.{pow-add, field, mod-mod-pow, high, low, pow-mono, pow-pos}
 use lib.Dec.{lit<}
-use Rattle.attribute_set.specs.Sets.{digit, In, Sub, full}
-use Rattle.attribute_set.specs.Sets.Laws.{lt-or-le, digit-lt, digit-high, digit-sub, member-cases, ext}
+use Rattle.attribute_set.specs.Sets.{digit, In, Sub}
+use Rattle.attribute_set.specs.Sets.Laws.{lt-or-le, digit-high, member-cases, ext}
 use Rattle.attribute_set.specs.Lectic.{Before, below, raise}
 
 pub before-irreflexive : (x : ℕ) → Before x x → ⊥

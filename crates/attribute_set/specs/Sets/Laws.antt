@@ -4,13 +4,13 @@ use mathlib.Core.Path.{_≡_, refl, sym, ap, ap₂, _∙_, subst}
 use mathlib.Core.Logic.{_⊎_, inl, inr, ⊎-elim}
 use mathlib.Core.Bool.{Bool, true, false, not}
 use Prim.Native.Nat.{ℕ, zero, suc, _+_, _-_, _*_, _/_, _%_, _^_, _≤_, _<_, min, max}
-use native.Mathlib.Nat.{mod-lt, mod-eq-of-lt, div-eq-of-lt, lt-of-lt-of-le, pow-suc}
+use native.Mathlib.Nat.{mod-lt, mod-eq-of-lt, div-eq-of-lt, lt-of-lt-of-le}
 use native.Mathlib.Omega.{arith}
 use lib.Arith.{bin-ind, digits-mod}
 use lib.Pow.{shr-shr, pow-mono, pow-pos, ones-lt}
 use lib.Bits.{bitAnd, bitOr, and-step, or-step, and-shr, or-shr, or-add-and, and-le-l, and-le-r, and-mask}
-use lib.Dec.{eqb, lit<, ltb}
-use borrow.Author.Tests.{eqb-true, eqb-false, eq-eqb, ne-eqb, not-true, not-false, ltb-true, ltb-false}
+use lib.Dec.{lit<, ltb}
+use borrow.Author.Tests.{eqb-true, eqb-false, eq-eqb, not-true, not-false, ltb-true, ltb-false}
 use Rattle.attribute_set.specs.Sets.{digit, In, Sub, Apart, full, without, inside, meets}
 
 pub lt-or-le : (i j : ℕ) → (i < j) ⊎ (j ≤ i)

@@ -1,11 +1,11 @@
 -- What a call of the plain machine is once the outcome of its checks is known, in the shape in which the code finds it out;
 -- and what the record and the lent words hold after an accepted reply.
-use mathlib.Core.Path.{_≡_, refl, sym, ap, _∙_, subst}
+use mathlib.Core.Path.{_≡_, refl, sym, ap, _∙_}
 use mathlib.Core.Logic.{_⊎_, inl, inr}
 use mathlib.Core.Bool.{Bool, true, false, not}
 use mathlib.Core.List.{List, [], _∷_, _++_, append-assoc, append-nil}
 use mathlib.Core.Option.{Option, none, some}
-use Prim.Native.Nat.{ℕ, suc, _+_, _*_, _/_, _≤_, _<_, min}
+use Prim.Native.Nat.{ℕ, _+_, _*_, _/_, _≤_, _<_, min}
 use native.Mathlib.Numerals.{add-one}
 use native.Mathlib.Omega.{arith}
 use lib.ListN.{length, set, length-set}
@@ -18,9 +18,9 @@ use Rattle.implication.specs.Pairs.Laws.{pairs-put}
 use Rattle.implication.specs.Closure.{implication, implicationsOf, inForce, closure}
 use Rattle.implication.specs.Next.{next}
 use Rattle.context.specs.Objects.{Object, object, objectsOf}
-use Rattle.machine.specs.Checks.{State, Refusal, Check, check, firstFailing, sessionChecks, yesChecks, noChecks, questionStands, question, reachOf, force, withQuestion}
-use Rattle.machine.specs.Checks.Laws.{passed, failing-append, failing-here, failing-later, failing-nothing, passed-append, none-failing}
-use Rattle.machine.specs.Machine.{Call, step, accept, reject, follow, refute, Answer, finished, moved, asked, taken, refused, Turn, turn, moveTo, afterYes, afterNo, performStep, performed, checksOf, perform, openingState}
+use Rattle.machine.specs.Checks.{State, Refusal, Check, check, firstFailing, sessionChecks, yesChecks, noChecks, questionStands, question, reachOf, force}
+use Rattle.machine.specs.Checks.Laws.{passed, failing-append, passed-append, none-failing}
+use Rattle.machine.specs.Machine.{Call, step, accept, reject, follow, refute, finished, moved, asked, taken, refused, Turn, turn, moveTo, afterYes, afterNo, performStep, performed, checksOf, perform, openingState}
 use Rattle.machine.specs.Machine.Laws.{perform-refused, perform-accepted}
 use Rattle.exploration.specs.declared.Session.{Session}
 use Rattle.exploration.specs.declared.Standing.{Standing}

@@ -1,6 +1,6 @@
 -- Each turn leaves the closure under all implications as it is, and ends where the closure under those in force respects the
 -- one more.
-use Prim.Native.Nat.{ℕ, _<_, _≤_, _-_, _^_}
+use Prim.Native.Nat.{ℕ, _<_, _-_, _^_}
 use mathlib.Core.Path.{_≡_, refl, sym, ap, _∙_}
 use mathlib.Core.List.{List, [], _∷_, _++_}
 use borrow.Author.Needs.{needs}

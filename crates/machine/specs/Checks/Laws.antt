@@ -3,10 +3,9 @@ use mathlib.Core.Path.{_≡_, refl, sym, ap, _∙_}
 use mathlib.Core.Bool.{Bool, true, false, not, _||_, true≢false}
 use mathlib.Core.List.{List, [], _∷_, _++_, append-nil}
 use mathlib.Core.Option.{Option, none, some, Option·some-ne-none}
-use Prim.Native.Nat.{ℕ, zero, suc, _≤_, _<_}
-use native.Mathlib.Omega.{arith}
+use Prim.Native.Nat.{ℕ}
 use lib.Dec.{eqb}
-use borrow.Author.Tests.{eqb-true, eqb-false, ne-eqb, eq-eqb, ltb-false, not-true, not-false}
+use borrow.Author.Tests.{eqb-true, eqb-false, not-true, not-false}
 use Rattle.theory.specs.Lists.{All}
 use Rattle.theory.specs.Lists.Laws.{all-take}
 use Rattle.theory.specs.Implications.{Implication, Over}
@@ -16,7 +15,7 @@ use Rattle.attribute_set.specs.Words.{words}
 use Rattle.implication.specs.Closure.{closure}
 use Rattle.context.specs.Places.{anywhere}
 use Rattle.context.specs.Places.Laws.{anywhere-false}
-use Rattle.context.specs.Objects.{Object, contradicts, markedTwice}
+use Rattle.context.specs.Objects.{Object, contradicts}
 use Rattle.machine.specs.Checks.{State, Check, Refusal, firstFailing, strangeObject, strangeImplication, outsideM, sessionChecks, force, reachOf, questionStands}
 
 pub or-false : (a b : Bool) → (a || b) ≡ false → (a ≡ false) × (b ≡ false)

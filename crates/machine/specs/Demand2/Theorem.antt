@@ -4,16 +4,15 @@
 use mathlib.Core.Path.{_≡_, refl, sym, ap, _∙_, subst}
 use mathlib.Core.Logic.{_↔_}
 use mathlib.Core.Bool.{Bool, true, false, true≢false}
-use mathlib.Core.List.{List, [], _∷_, _++_, map, List·Memᴰ, List·Memᴰ·head, append-assoc, Memᴰ·map, Memᴰ·of-map, Memᴰ·append-right}
-use mathlib.Core.Option.{Option, none, some}
+use mathlib.Core.List.{List, [], _∷_, _++_, map, List·Memᴰ·head, append-assoc, Memᴰ·map, Memᴰ·of-map, Memᴰ·append-right}
 use Prim.Native.Nat.{ℕ, _/_}
 use native.Mathlib.Omega.{arith}
 use lib.ListN.{take, length}
 use lib.Dec.{leb}
 use Rattle.theory.specs.Lists.{All}
-use Rattle.theory.specs.Lists.Laws.{all-nil, all-cons, all-append, all-take, all-drop, all-snoc}
+use Rattle.theory.specs.Lists.Laws.{all-take, all-snoc}
 use Rattle.theory.specs.Implications.{Implication, Over}
-use Rattle.attribute_set.specs.Sets.{Sub, full}
+use Rattle.attribute_set.specs.Sets.{full}
 use Rattle.attribute_set.specs.Sets.Laws.{sub-trans, without-sub}
 use Rattle.attribute_set.specs.Words.{words}
 use Rattle.implication.specs.Closure.{closure}
@@ -26,7 +25,7 @@ use Rattle.context.specs.Tables.{Complete, Table, AgreesObject, AgreesImplicati
 use Rattle.context.specs.Tables.Laws.{completed-complete, completes, completed-agrees, no-contradiction}
 use Rattle.machine.specs.Checks.{State, Check, Refusal, check, firstFailing, sessionChecks, yesChecks, noChecks, force, reachOf, question, withQuestion, strangeObject}
 use Rattle.machine.specs.Checks.Laws.{Passed, passed, passed-append, failing-append, failing-nothing, failing-here, failing-later, or-false, InM, familiar-object, Valid, valid}
-use Rattle.machine.specs.Machine.{Call, accept, reject, Answer, taken, refused, Turn, performed, checksOf, perform}
+use Rattle.machine.specs.Machine.{Call, accept, reject, taken, refused, Turn, performed, checksOf}
 use Rattle.machine.specs.Machine.Laws.{perform-refused, perform-accepted}
 use Rattle.machine.specs.Replies.{agreed, offered}
 use Rattle.machine.specs.Demand2.{Refused11, Agrees, Contradictory, YesUpTo11, NoUpTo11, Demand2}

@@ -1,20 +1,20 @@
 -- Every call keeps the invariant of the walk: from an accepted opening on, the state is explored in the sense of the theory,
 -- the implications in force are over M, and no row contradicts them (`run-reached`).
-use mathlib.Core.Path.{_≡_, refl, sym, ap, _∙_, subst}
-use mathlib.Core.Logic.{_⊎_, inl, inr, ⊎-elim}
-use mathlib.Core.Bool.{Bool, true, false}
-use mathlib.Core.List.{List, [], _∷_, _++_, List·Memᴰ, append-assoc, append-nil}
+use mathlib.Core.Path.{_≡_, refl, sym, subst}
+use mathlib.Core.Logic.{⊎-elim}
+use mathlib.Core.Bool.{false}
+use mathlib.Core.List.{List, [], _∷_, _++_, List·Memᴰ, append-assoc}
 use mathlib.Core.Option.{none}
 use Prim.Native.Nat.{ℕ}
 use borrow.Author.Tests.{not-false}
 use Rattle.theory.specs.Lists.{All}
-use Rattle.theory.specs.Lists.Laws.{all-nil, all-cons, all-append, all-take, all-drop, all-snoc}
-use Rattle.theory.specs.Implications.{Implication, Closed, Over, Background}
+use Rattle.theory.specs.Lists.Laws.{all-nil, all-append, all-take, all-drop, all-snoc}
+use Rattle.theory.specs.Implications.{Implication, Over, Background}
 use Rattle.theory.specs.Canonical.{Model}
 use Rattle.theory.specs.Exploration.{Next, Sound, Explored}
 use Rattle.theory.specs.Exploration.Steps.{start, move, accept, shrink}
 use Rattle.theory.specs.Exploration.Result.{closure-model}
-use Rattle.attribute_set.specs.Sets.{Sub, Apart, full, without}
+use Rattle.attribute_set.specs.Sets.{Sub, Apart, full}
 use Rattle.attribute_set.specs.Sets.Laws.{sub-refl, sub-trans, sub-antisym, none-sub, without-sub, without-apart, without-or, apart-sub, or-least}
 use Rattle.attribute_set.specs.Lectic.{Before}
 use Rattle.attribute_set.specs.Lectic.Laws.{before-irreflexive, before-trans, sub-not-before}
@@ -30,7 +30,7 @@ use Rattle.context.specs.Reach.{reach}
 use Rattle.context.specs.Reach.Laws.{reach-great, reach-inside, reach-snoc, reach-more}
 use Rattle.machine.specs.Checks.{Lent, State, force, reachOf, question, withQuestion, firstFailing, sessionChecks, yesChecks, noChecks}
 use Rattle.machine.specs.Checks.Laws.{passed, passed-append, Valid, valid, Stands, stands}
-use Rattle.machine.specs.Machine.{Call, step, accept as accepting, reject, follow, refute, Turn, moveTo, afterYes, afterNo, performed, checksOf, perform, run, opening, opened, openingState}
+use Rattle.machine.specs.Machine.{Call, step, accept as accepting, reject, follow, refute, moveTo, afterYes, afterNo, performed, checksOf, perform, run, opening, opened, openingState}
 use Rattle.machine.specs.Machine.Laws.{perform-cases, step-cases, opened-is}
 
 -- the sets of the background

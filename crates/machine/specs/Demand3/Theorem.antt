@@ -4,12 +4,12 @@
 use mathlib.Core.Path.{_≡_, refl, sym, ap, _∙_, subst}
 use mathlib.Core.Logic.{_↔_}
 use mathlib.Core.Bool.{Bool, true, false, true≢false}
-use mathlib.Core.List.{List, [], _∷_, _++_, List·Memᴰ, List·Memᴰ·head, List·Memᴰ·tail}
+use mathlib.Core.List.{List, [], _∷_, _++_, List·Memᴰ·head, List·Memᴰ·tail}
 use Prim.Native.Nat.{ℕ, _≤_}
 use lib.ListN.{length}
 use Rattle.theory.specs.Lists.{All}
 use Rattle.theory.specs.Lists.Laws.{all-nil, all-cons, all-append, all-take, all-drop}
-use Rattle.theory.specs.Implications.{Implication, Over, Background, Least}
+use Rattle.theory.specs.Implications.{Implication, Background, Least}
 use Rattle.theory.specs.Implications.Laws.{≡-dec}
 use Rattle.theory.specs.Canonical.{Model, Canonical}
 use Rattle.theory.specs.Canonical.Minimal.{minimal-list}

@@ -1,5 +1,5 @@
 -- A call by cases: what it does where its checks pass, and a refusal, which leaves the state as it is; a step by cases.
-use mathlib.Core.Path.{_≡_, refl, sym, ap, _∙_}
+use mathlib.Core.Path.{_≡_, refl}
 use mathlib.Core.Bool.{Bool, true, false}
 use mathlib.Core.List.{List, []}
 use mathlib.Core.Option.{Option, none, some}
@@ -12,7 +12,7 @@ use Rattle.attribute_set.specs.Sets.{full}
 use Rattle.implication.specs.Next.{next}
 use Rattle.context.specs.Objects.{Object}
 use Rattle.machine.specs.Checks.{Lent, State, Refusal, firstFailing, sessionChecks, force, reachOf, question}
-use Rattle.machine.specs.Machine.{Call, step, Answer, finished, moved, asked, refused, Turn, turn, moveTo, performStep, performed, checksOf, perform, Opening, opened, rejected, opening, openingState}
+use Rattle.machine.specs.Machine.{Call, step, finished, moved, asked, refused, Turn, turn, moveTo, performStep, performed, checksOf, perform, Opening, opened, rejected, opening, openingState}
 
 module _ (s : State) (c : Call) where
   pub perform-cases : (P : Turn → Type 0) → (firstFailing (checksOf s c) ≡ none → P (performed s c))

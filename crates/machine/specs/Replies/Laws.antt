@@ -4,11 +4,10 @@
 use mathlib.Core.Path.{_≡_, refl, sym, ap, _∙_}
 use mathlib.Core.Bool.{Bool, true, false}
 use mathlib.Core.List.{List, [], _∷_, _++_, append-assoc, append-nil}
-use mathlib.Core.Option.{Option, none, some}
+use mathlib.Core.Option.{none, some}
 use Prim.Native.Nat.{ℕ}
 use lib.Dec.{ltb}
 use borrow.Author.Tests.{not-false}
-use Rattle.theory.specs.Implications.{Implication}
 use Rattle.implication.specs.Closure.{follows}
 use Rattle.machine.specs.Checks.{State, force, question, firstFailing, sessionChecks, yesChecks}
 use Rattle.machine.specs.Checks.Laws.{passed-append, none-failing, Stands, stands}

@@ -1,10 +1,9 @@
 -- A refusal is the machine's and leaves the words; else the question is written at the next place, which checks 3 and 12
 -- leave free, and the next closed set is taken under the list as written.
-use mathlib.Core.Path.{_≡_, refl, sym, ap, _∙_, subst}
-use mathlib.Core.Logic.{_⊎_, inl, inr}
-use mathlib.Core.List.{List, []}
+use mathlib.Core.Path.{_≡_, sym, ap, _∙_}
+use mathlib.Core.Logic.{inl}
 use mathlib.Core.Option.{none}
-use Prim.Native.Nat.{ℕ, _+_, _*_, _≤_, _<_}
+use Prim.Native.Nat.{ℕ, _+_, _*_, _<_}
 use native.Mathlib.Omega.{arith}
 use lib.ListN.{length, set, length-set}
 use borrow.Author.Needs.{needs}
@@ -12,8 +11,8 @@ use Rattle.theory.specs.Implications.{Implication}
 use Rattle.implication.specs.Pairs.Laws.{length-pairs}
 use Rattle.implication.specs.Closure.{implication}
 use Rattle.context.specs.Objects.{object}
-use Rattle.machine.specs.Checks.{State, Refusal, firstFailing}
-use Rattle.machine.specs.Machine.{accept, refused, Turn, turn, perform}
+use Rattle.machine.specs.Checks.{State, firstFailing}
+use Rattle.machine.specs.Machine.{Turn}
 use Rattle.exploration.specs.Session.{stateOf, verdictOf, joinChecks, askingOf, askingAt}
 use Rattle.exploration.specs.Session.Turns.{accept-unasked, accept-refused, accept-taken, asked-question, asked-small, join-place, yes-holds, list-kept, list-written}
 use Rattle.exploration.proofs.Session.accept.Statement.{statement}

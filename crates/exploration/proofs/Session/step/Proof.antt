@@ -6,9 +6,9 @@ use Prim.Native.Nat.{ℕ, min}
 use native.Mathlib.Omega.{arith}
 use borrow.Author.Needs.{needs}
 use Rattle.implication.specs.Next.{next}
-use Rattle.machine.specs.Checks.{State, firstFailing, sessionChecks, reachOf, force}
+use Rattle.machine.specs.Checks.{State, firstFailing, sessionChecks, force}
 use Rattle.machine.specs.Machine.{step, Turn, moveTo, perform}
-use Rattle.exploration.specs.Session.{stateOf, verdictOf, standingAt}
+use Rattle.exploration.specs.Session.{stateOf, verdictOf}
 use Rattle.exploration.specs.Session.Laws.{unasked, checked-small}
 use Rattle.exploration.specs.Session.Turns.{session-refused, stepFrom, step-taken}
 use Rattle.exploration.proofs.Session.step.Statement.{statement}
