@@ -1,0 +1,103 @@
+// Reads every table file that its arguments name, and writes a line for each: its name, then the refusal, or the counts and
+// offsets found, the words of the first and the last row, and the lengths of the first and the last name of each kind.
+use libc::STDOUT_FILENO;
+
+fn put(n: u64) {
+    io::write_all(STDOUT_FILENO, b" ");
+    io::print_decimal(STDOUT_FILENO, n);
+}
+
+fn put_refusal(refusal: burmeister::Refusal) {
+    io::write_all(STDOUT_FILENO, b" E");
+    put(refusal.number);
+    put(refusal.place as u64);
+}
+
+// The words of a row of those that were read.
+fn put_row(rows: &[u64], number: usize) {
+    if number < 512 {
+        let at = number * 2;
+        if at + 1 < rows.len() {
+            put(rows[at]);
+            put(rows[at + 1]);
+        }
+    }
+}
+
+fn put_names(file: &[u8], layout: burmeister::Layout) {
+    put(burmeister::object_name(file, layout, 0).len() as u64);
+    if 0 < layout.objects {
+        put(burmeister::object_name(file, layout, layout.objects - 1).len() as u64);
+    }
+    put(burmeister::object_name(file, layout, layout.objects).len() as u64);
+    put(burmeister::attribute_name(file, layout, 0).len() as u64);
+    if 0 < layout.attributes {
+        put(burmeister::attribute_name(file, layout, layout.attributes - 1).len() as u64);
+    }
+    put(burmeister::attribute_name(file, layout, layout.attributes).len() as u64);
+}
+
+// Whether the table is complete; else where its first unknown mark is.
+fn put_complete(file: &[u8]) {
+    let opened = burmeister::open_complete(file);
+    match opened {
+        burmeister::Opened::Table(_) => {
+            io::write_all(STDOUT_FILENO, b" complete");
+        }
+        burmeister::Opened::Refused(refusal) => {
+            put_refusal(refusal);
+        }
+    }
+}
+
+fn put_table(file: &[u8], rows: &[u64], layout: burmeister::Layout) {
+    put(layout.objects as u64);
+    put(layout.attributes as u64);
+    put(layout.object_names as u64);
+    put(layout.attribute_names as u64);
+    put(layout.marks as u64);
+    if 0 < layout.objects {
+        put_row(rows, 0);
+        put_row(rows, layout.objects - 1);
+    }
+    put_names(file, layout);
+    put_complete(file);
+}
+
+fn show(file: &[u8]) {
+    let mut rows = [0u64; 1024];
+    let reading = burmeister::read_marks(file, &mut rows);
+    match reading {
+        burmeister::Reading::Read(layout) => put_table(file, &rows, layout),
+        burmeister::Reading::Refused(refusal) => put_refusal(refusal),
+    }
+}
+
+fn show_path(path: &[u8]) {
+    let fd = os::open_read(path);
+    if fd < 0 {
+        os::fail(path);
+        return;
+    }
+    let mut file = [0u8; 65536];
+    let size = io::read_full(fd, &mut file);
+    libc::close(fd);
+    io::write_all(STDOUT_FILENO, path);
+    show(&file[..size]);
+    io::write_all(STDOUT_FILENO, b"\n");
+}
+
+fn show_arg(number: usize) {
+    let mut path = io::buffer();
+    let length = os::arg(number, &mut path);
+    show_path(&path[..length]);
+}
+
+fn main() {
+    let count = os::arg_count();
+    let mut i = 1;
+    while i < count {
+        show_arg(i);
+        i += 1;
+    }
+}
