@@ -12,13 +12,13 @@ ghost use Rattle.burmeister.specs.declared.Kind.the-variants.{Marks};
 ghost use Rattle.burmeister.specs.Layout.{isDigit, isYes, isNo, isUnknown, isMark, everywhere, decimalFrom, isCount, countOf, fault, absent, header, walk, walkOn, rest, thenRest, placeOf, Passes, opening};
 
 // A line: how many bytes it has, and how many there are up to where the next one begins.
-pub struct Line {
+struct Line {
     pub size: usize,
     pub step: usize,
 }
 
 // The kinds of lines; a line of marks has one byte for each attribute.
-pub enum Kind {
+enum Kind {
     Letter,
     Title,
     Objects,
@@ -35,7 +35,7 @@ pub struct Refusal {
 }
 
 // Lines in order: the first that is refused, or the offset where they end.
-pub enum Walk {
+enum Walk {
     Failed(Refusal),
     At(usize),
 }
@@ -451,7 +451,7 @@ fn no_bit(b: u8) -> u64
 }
 
 // The two words of a row.
-pub struct Row {
+struct Row {
     pub yes: u64,
     pub no: u64,
 }

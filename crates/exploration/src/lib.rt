@@ -83,19 +83,19 @@ pub enum Opened {
     Refused(Refusal),
 }
 
-pub enum Verdict {
+enum Verdict {
     Passed,
     Failed(Refusal),
 }
 
 // The standing question, or why there is none to reply to.
-pub enum Asking {
+enum Asking {
     Question(Question),
     Failed(Refusal),
 }
 
 // How the current set stands: it is M; its reach is itself; or a question stands.
-pub enum Standing {
+enum Standing {
     Full,
     Tight,
     Open(Question),
