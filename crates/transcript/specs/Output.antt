@@ -1,0 +1,94 @@
+-- The program's whole output, from the bytes of standard input to the bytes written (01, "The program"): it opens with no rows
+-- and no background, lends 512 and 256 places, and replies from the table: no with the first file row that refutes, else yes.
+-- A refused reply has its Q line before the E line, and no L or END line is written then.
+use mathlib.Core.Bool.{Bool, true, false}
+use mathlib.Core.List.{List, [], _++_}
+use Prim.Native.Nat.{ℕ, zero, suc, _+_, _*_, _^_}
+use lib.ListN.{length, getD}
+use lib.Dec.{ltb}
+use Rattle.theory.specs.Implications.{Implication}
+use Rattle.context.specs.Objects.{Object, object, firstRefuting}
+use Rattle.machine.specs.Checks.{Lent, State}
+use Rattle.machine.specs.Machine.{step, accept, reject, Answer, finished, moved, asked, taken, followed, refuted, unrefuted, refused, perform, opened, rejected, Opening, opening}
+use Rattle.burmeister.specs.Layout
+use Rattle.burmeister.specs.Marks.{rowsFrom}
+use Rattle.burmeister.specs.Names.{completeOf}
+use Rattle.burmeister.specs.declared.Opened.{Opened}
+use Rattle.burmeister.specs.declared.Opened.the-variants.{Table, Refused}
+use Rattle.transcript.specs.Text.{yesLine, noLine, listLines, endLine, refusalLine}
+pub mod Ends
+
+-- what one beat of the interview writes, and how it goes on: with the next state and the changes of the current set so far
+pub data Beat : Type 0 where
+  more : List ℕ → State → ℕ → Beat
+  last : List ℕ → Beat
+
+-- a reply: its Q line; then it goes on where it was taken, and ends in the refusal where it was refused
+abbrev pub replied : List ℕ → ℕ → Answer → State → Beat
+replied line changes finished s = last line
+replied line changes moved s = last line
+replied line changes (asked q) s = last line
+replied line changes taken s = more line s changes
+replied line changes (followed b) s = last line
+replied line changes (refuted p) s = last line
+replied line changes unrefuted s = last line
+replied line changes (refused r) s = last (line ++ refusalLine r)
+
+-- the reply to a question: no with the first row of the table that refutes it, else yes
+unfoldable pub answered : List Object → State → ℕ → Implication ℕ → Beat
+answered table s changes q =
+    elim (ltb (firstRefuting [] table q) (length table)) [
+      | true ↦
+          let row = firstRefuting [] table q in
+          let t = perform s (reject (getD table row (object 0 0))) in
+          replied (noLine (s .n) q row) changes (t .answer) (t .after)
+      | false ↦ let t = perform s accept in replied (yesLine (s .n) q) (suc changes) (t .answer) (t .after)
+    ]
+
+-- after a step: at Finished the list in its order and the totals, which are lengths of list, rows and walk; a move is counted
+abbrev pub stepped : List Object → State → ℕ → Answer → State → Beat
+stepped table s changes finished s′ = last (listLines (s .n) (s .list) ++ endLine (length (s .list)) (length (s .rows)) changes)
+stepped table s changes moved s′ = more [] s′ (suc changes)
+stepped table s changes (asked q) s′ = answered table s changes q
+stepped table s changes taken s′ = last []
+stepped table s changes (followed b) s′ = last []
+stepped table s changes (refuted p) s′ = last []
+stepped table s changes unrefuted s′ = last []
+stepped table s changes (refused r) s′ = last (refusalLine r)
+
+-- one beat: a step, and the reply where it asks
+unfoldable pub beat : List Object → State → ℕ → Beat
+beat table s changes = let t = perform s step in stepped table s changes (t .answer) (t .after)
+
+-- beats until the last, at most k of them
+unfoldable pub beats : ℕ → List Object → State → ℕ → List ℕ
+beats zero table s changes = []
+beats (suc k) table s changes =
+    elim (beat table s changes) [ more line s′ changes′ ↦ line ++ beats k table s′ changes′ | last line ↦ line ]
+
+-- whether the last beat is among the first k
+unfoldable pub ended : ℕ → List Object → State → ℕ → Bool
+ended zero table s changes = false
+ended (suc k) table s changes = elim (beat table s changes) [ more line s′ changes′ ↦ ended k table s′ changes′ | last line ↦ true ]
+
+-- 512 places for rows and 256 for rules are lent, and no background
+abbrev pub lent : Lent
+lent = record { rows = 1024; list = 512; background = 0 }
+
+-- a change of the current set goes on to a later one, of 2 to the power n sets, and between two changes at most 512 rows are
+-- filed: `Ends` proves that this many beats are enough
+abbrev pub enough : ℕ → ℕ
+enough n = suc (2 ^ n * 513 + 512)
+
+-- the interview of a complete table over n attributes
+abbrev pub interviewed : List Object → Opening → ℕ → List ℕ
+interviewed table (opened s) n = beats (enough n) table s 0
+interviewed table (rejected r) n = refusalLine r
+
+abbrev pub written : List ℕ → Opened → List ℕ
+written file (Table l) = interviewed (rowsFrom (l .objects) file (l .marks)) (opening (l .attributes) lent [] []) (l .attributes)
+written file (Refused r) = refusalLine (record { number = r .number; place = r .place })
+
+-- the program's output
+unfoldable pub output : List ℕ → List ℕ
+output file = written file (completeOf file (Layout.opening file))

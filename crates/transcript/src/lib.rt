@@ -1,0 +1,1 @@
+// The program's output has no code yet: its definition and theorems stand in specs/.
