@@ -49,6 +49,19 @@ pub struct Layout {
     pub marks: usize,
 }
 
+impl Layout {
+    // The limits of a table file: its bytes, rows, properties, and the bytes of a title or a name; and of lent row words.
+    pub const BYTES: usize = 65535;
+
+    pub const OBJECTS: usize = 512;
+
+    pub const ATTRIBUTES: usize = 64;
+
+    pub const NAME: usize = 80;
+
+    pub const WORDS: usize = 1024;
+}
+
 pub enum Opened {
     Table(Layout),
     Refused(Refusal),
@@ -232,7 +245,7 @@ fn fault_of(file: &[u8], at: usize, size: usize, kind: Kind) -> u64
             0
         }
         Kind::Title => {
-            if 80 < size {
+            if Layout::NAME < size {
                 return 25;
             }
             0
@@ -241,7 +254,7 @@ fn fault_of(file: &[u8], at: usize, size: usize, kind: Kind) -> u64
             if !is_count(file, at, size) {
                 return 23;
             }
-            if 512 < count_of(file, at, size) {
+            if Layout::OBJECTS < count_of(file, at, size) {
                 return 24;
             }
             0
@@ -254,7 +267,7 @@ fn fault_of(file: &[u8], at: usize, size: usize, kind: Kind) -> u64
             if count == 0 {
                 return 24;
             }
-            if 64 < count {
+            if Layout::ATTRIBUTES < count {
                 return 24;
             }
             0
@@ -269,7 +282,7 @@ fn fault_of(file: &[u8], at: usize, size: usize, kind: Kind) -> u64
             if size == 0 {
                 return 26;
             }
-            if 80 < size {
+            if Layout::NAME < size {
                 return 26;
             }
             0
@@ -404,10 +417,10 @@ fn ended(file: &[u8], walked: Walk) -> Walk
 pub fn open(file: &[u8]) -> Opened
     ensures { λ r. ⌜ r ≡ opening (now (file .entry)) ⌝ }
 {
-    if 65535 < file.len() {
+    if Layout::BYTES < file.len() {
         return Opened::Refused(Refusal {
             number: 21,
-            place: 65535,
+            place: Layout::BYTES,
         });
     }
     let second = next_at(file, next_at(file, 0));
@@ -505,7 +518,7 @@ pub fn read_marks(file: &[u8], rows: &mut [u64]) -> Reading
             place: 0,
         });
     }
-    if 1024 < words {
+    if Layout::WORDS < words {
         return Reading::Refused(Refusal {
             number: 2,
             place: 0,
