@@ -6,7 +6,7 @@ ghost use Prim.Native.Nat.{_+_, _*_, _≤_, _<_};
 ghost use lib.ListN.{length, getD, take, drop, replicate};
 ghost use lib.Dec.{eqb};
 ghost use Rattle.burmeister.specs.Lines.{carriageReturn, feeds, lineOf, bytesAt, after};
-ghost use Rattle.burmeister.specs.Names.{sameLayout, finds, skipped, objectName, attributeName, completeFrom, completeOf};
+ghost use Rattle.burmeister.specs.Names.{sameLayout, finds, skipped, nameFrom, objectName, attributeName, completeFrom, completeOf};
 ghost use Rattle.burmeister.specs.Marks.{bitOf, wordOf, rowsFrom, flat, reading, rowWords};
 ghost use Rattle.burmeister.specs.declared.Kind.the-variants.{Marks};
 ghost use Rattle.burmeister.specs.Layout.{isDigit, isYes, isNo, isUnknown, isMark, everywhere, decimalFrom, isCount, countOf, fault, absent, header, walk, walkOn, rest, thenRest, placeOf, Passes, opening};
@@ -605,13 +605,12 @@ fn nothing(file: &[u8]) -> &[u8]
     &file[0..0]
 }
 
-// The name of an object by its number, as the file's own bytes. No name is empty: no bytes are refusal 3, for a number past the
-// last and for a layout that is not what reading the file finds.
-pub fn object_name(file: &[u8], layout: Layout, number: usize) -> &[u8]
-    ensures { λ r. ⌜ now r ≡ objectName (now (file .entry)) layout number ⌝ }
+// The name with this number of count names that begin at start; no bytes for a number past the last and for a layout that is not
+// what reading the file finds.
+fn name_of(file: &[u8], layout: Layout, count: usize, start: usize, number: usize) -> &[u8]
+    requires { ⌜ (finds (now file) layout ≡ true → start ≤ length (now file)) ⌝ }
+    ensures { λ r. ⌜ now r ≡ nameFrom (finds (now (file .entry)) layout) count start number (now (file .entry)) ⌝ }
 {
-    let count = layout.objects;
-    let start = layout.object_names;
     if !is_found(file, layout) {
         return nothing(file);
     }
@@ -621,19 +620,24 @@ pub fn object_name(file: &[u8], layout: Layout, number: usize) -> &[u8]
     line_of(file, skip(file, start, number))
 }
 
+// The name of an object by its number, as the file's own bytes. No name is empty: no bytes are refusal 3.
+pub fn object_name(file: &[u8], layout: Layout, number: usize) -> &[u8]
+    ensures { λ r. ⌜ now r ≡ objectName (now (file .entry)) layout number ⌝ }
+{
+    name_of(file, layout, layout.objects, layout.object_names, number)
+}
+
 // The name of an attribute by its number, as for objects.
 pub fn attribute_name(file: &[u8], layout: Layout, number: usize) -> &[u8]
     ensures { λ r. ⌜ now r ≡ attributeName (now (file .entry)) layout number ⌝ }
 {
-    let count = layout.attributes;
-    let start = layout.attribute_names;
-    if !is_found(file, layout) {
-        return nothing(file);
-    }
-    if count <= number {
-        return nothing(file);
-    }
-    line_of(file, skip(file, start, number))
+    name_of(
+        file,
+        layout,
+        layout.attributes,
+        layout.attribute_names,
+        number,
+    )
 }
 
 // None of size bytes from an offset on is an unknown mark.
