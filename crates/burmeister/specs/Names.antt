@@ -9,6 +9,7 @@ use Rattle.burmeister.specs.declared.Layout.{Layout}
 use Rattle.burmeister.specs.declared.Opened.{Opened}
 use Rattle.burmeister.specs.declared.Opened.the-variants.{Table, Refused}
 pub mod Laws
+pub mod Complete
 
 -- the same counts and offsets
 abbrev pub sameLayout : Layout → Layout → Bool

@@ -1,3 +1,5 @@
 pub mod Text
+pub mod Page
 pub mod Output
+pub mod Core
 pub mod Example

@@ -1,18 +1,19 @@
 -- The program's whole output, from the bytes of standard input to the bytes written (01, "The program"): it opens with no rows
--- and no background, lends 512 and 256 places, and replies from the table: no with the first file row that refutes, else yes.
+-- and no background, and replies from the table: no with the first file row that refutes, else yes.
 -- A refused reply has its Q line before the E line, and no L or END line is written then.
 use mathlib.Core.Bool.{Bool, true, false}
 use mathlib.Core.List.{List, [], _++_}
-use Prim.Native.Nat.{ℕ, zero, suc, _+_, _*_, _^_}
+use Prim.Native.Nat.{ℕ, zero, suc, _+_, _*_, _/_, _^_}
 use lib.ListN.{length, getD}
 use lib.Dec.{ltb}
 use Rattle.theory.specs.Implications.{Implication}
 use Rattle.context.specs.Objects.{Object, object, firstRefuting}
 use Rattle.machine.specs.Checks.{Lent, State}
 use Rattle.machine.specs.Machine.{step, accept, reject, Answer, finished, moved, asked, taken, followed, refuted, unrefuted, refused, perform, opened, rejected, Opening, opening}
-use Rattle.burmeister.specs.Layout
+use Rattle.burmeister.specs.Layout as layout
 use Rattle.burmeister.specs.Marks.{rowsFrom}
 use Rattle.burmeister.specs.Names.{completeOf}
+use Rattle.burmeister.specs.declared.Layout.{Layout}
 use Rattle.burmeister.specs.declared.Opened.{Opened}
 use Rattle.burmeister.specs.declared.Opened.the-variants.{Table, Refused}
 use Rattle.transcript.specs.Text.{yesLine, noLine, listLines, endLine, refusalLine}
@@ -34,20 +35,24 @@ replied line changes (refuted p) s = last line
 replied line changes unrefuted s = last line
 replied line changes (refused r) s = last (line ++ refusalLine r)
 
--- the reply to a question: no with the first row of the table that refutes it, else yes
+-- the reply to a question: no with the first row of the table that refutes it, which is counted from 1, else yes
 unfoldable pub answered : List Object → State → ℕ → Implication ℕ → Beat
 answered table s changes q =
     elim (ltb (firstRefuting [] table q) (length table)) [
       | true ↦
           let row = firstRefuting [] table q in
           let t = perform s (reject (getD table row (object 0 0))) in
-          replied (noLine (s .n) q row) changes (t .answer) (t .after)
+          replied (noLine (s .n) q (row + 1)) changes (t .answer) (t .after)
       | false ↦ let t = perform s accept in replied (yesLine (s .n) q) (suc changes) (t .answer) (t .after)
     ]
 
--- after a step: at Finished the list in its order and the totals, which are lengths of list, rows and walk; a move is counted
+-- the end: the list in its order and the totals, which are lengths of list, rows and walk
+abbrev pub closing : State → ℕ → List ℕ
+closing s changes = listLines (s .n) (s .list) ++ endLine (length (s .list)) (length (s .rows)) changes
+
+-- after a step: the end at Finished; a move is counted
 abbrev pub stepped : List Object → State → ℕ → Answer → State → Beat
-stepped table s changes finished s′ = last (listLines (s .n) (s .list) ++ endLine (length (s .list)) (length (s .rows)) changes)
+stepped table s changes finished s′ = last (closing s changes)
 stepped table s changes moved s′ = more [] s′ (suc changes)
 stepped table s changes (asked q) s′ = answered table s changes q
 stepped table s changes taken s′ = last []
@@ -71,24 +76,31 @@ unfoldable pub ended : ℕ → List Object → State → ℕ → Bool
 ended zero table s changes = false
 ended (suc k) table s changes = elim (beat table s changes) [ more line s′ changes′ ↦ ended k table s′ changes′ | last line ↦ true ]
 
--- 512 places for rows and 256 for rules are lent, and no background
-abbrev pub lent : Lent
-lent = record { rows = 1024; list = 512; background = 0 }
+-- a change of the current set goes on to a later one, of 2 to the power n sets, and between two changes at most as many rows are
+-- filed as there are places: `Ends` proves that this many beats are enough
+abbrev pub enough : State → ℕ
+enough s = suc (2 ^ s .n * suc (s .lent .rows / 2) + s .lent .rows / 2)
 
--- a change of the current set goes on to a later one, of 2 to the power n sets, and between two changes at most 512 rows are
--- filed: `Ends` proves that this many beats are enough
-abbrev pub enough : ℕ → ℕ
-enough n = suc (2 ^ n * 513 + 512)
+-- the interview of a complete table, from its opening on
+abbrev pub interviewed : List Object → Opening → List ℕ
+interviewed table (opened s) = beats (enough s) table s 0
+interviewed table (rejected r) = refusalLine r
 
--- the interview of a complete table over n attributes
-abbrev pub interviewed : List Object → Opening → ℕ → List ℕ
-interviewed table (opened s) n = beats (enough n) table s 0
-interviewed table (rejected r) n = refusalLine r
+abbrev pub tableOf : List ℕ → Layout → List Object
+tableOf file l = rowsFrom (l .objects) file (l .marks)
 
-abbrev pub written : List ℕ → Opened → List ℕ
-written file (Table l) = interviewed (rowsFrom (l .objects) file (l .marks)) (opening (l .attributes) lent [] []) (l .attributes)
-written file (Refused r) = refusalLine (record { number = r .number; place = r .place })
+abbrev pub written : Lent → List ℕ → Opened → List ℕ
+written lent file (Table l) = interviewed (tableOf file l) (opening (l .attributes) lent [] [])
+written lent file (Refused r) = refusalLine (record { number = r .number; place = r .place })
+
+-- the output where these places are lent
+unfoldable pub outputWith : Lent → List ℕ → List ℕ
+outputWith lent file = written lent file (completeOf file (layout.opening file))
+
+-- the program lends 512 places for rows and 256 for rules, and no background
+abbrev pub places : Lent
+places = record { rows = 1024; list = 512; background = 0 }
 
 -- the program's output
-unfoldable pub output : List ℕ → List ℕ
-output file = written file (completeOf file (Layout.opening file))
+abbrev pub output : List ℕ → List ℕ
+output file = outputWith places file

@@ -5,6 +5,7 @@ use lib.Dec.{ltb}
 use mathlib.Core.Bool.{true, false}
 use Rattle.theory.specs.Implications.{Implication}
 use Rattle.machine.specs.Checks.{Refusal}
+pub mod Digits
 
 -- the decimal digits of a number, no leading zero, at most k of them
 unfoldable pub digits : ℕ → ℕ → List ℕ
@@ -38,9 +39,9 @@ ruleText n r = setText n (r .premise) ++ (space ++ setText n (r .conclusion))
 abbrev pub yesLine : ℕ → Implication ℕ → List ℕ
 yesLine n q = 81 ∷ 32 ∷ (ruleText n q ++ (32 ∷ 121 ∷ 101 ∷ 115 ∷ newline))
 
--- `Q`, the question, ` no `, and the file row counted from 1
+-- `Q`, the question, ` no `, and the file row, counted from 1
 abbrev pub noLine : ℕ → Implication ℕ → ℕ → List ℕ
-noLine n q row = 81 ∷ 32 ∷ (ruleText n q ++ (32 ∷ 110 ∷ 111 ∷ 32 ∷ (numberText (suc row) ++ newline)))
+noLine n q row = 81 ∷ 32 ∷ (ruleText n q ++ (32 ∷ 110 ∷ 111 ∷ 32 ∷ (numberText row ++ newline)))
 
 -- `L`, a rule of the list
 unfoldable pub listLines : ℕ → List (Implication ℕ) → List ℕ

@@ -20,7 +20,7 @@ pub first-byte : (file : List ℕ) (at size : ℕ) → 0 < size → getD (take s
 first-byte file at size h = rw (getD-take, getD-drop, add-zero)
 
 -- the first byte and the others
-everywhere-cons : (f : ℕ → Bool) (b : ℕ) (bs : List ℕ) → everywhere f (b ∷ bs) ≡ (f b && everywhere f bs)
+pub everywhere-cons : (f : ℕ → Bool) (b : ℕ) (bs : List ℕ) → everywhere f (b ∷ bs) ≡ (f b && everywhere f bs)
 unfolding everywhere
 everywhere-cons f b bs = go (f b)
   where

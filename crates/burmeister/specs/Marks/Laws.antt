@@ -1,9 +1,9 @@
 -- The rows have no mark but those of the file, bit for bit: bit j of a word says whether byte j passes the test (`word-bit`), and no
--- bit past the bytes is set (`word-past`). A line of marks that passes has a byte for each property (`marks-line`), and the rows of a
+-- bit past the bytes is set (`word-past`). The words that are written hold the rows (`rows-held`). A line of marks that passes has a byte for each property (`marks-line`), and the rows of a
 -- part of the file are the file's (`rows-from`).
 use mathlib.Core.Path.{_≡_, refl, sym, ap, _∙_}
 use mathlib.Core.Bool.{Bool, true, false, _&&_}
-use mathlib.Core.List.{List, [], _∷_}
+use mathlib.Core.List.{List, [], _∷_, _++_}
 use Prim.Native.Nat.{ℕ, zero, suc, _+_, _-_, _*_, _/_, _%_, _^_, _≤_, _<_}
 use native.Mathlib.Nat.{add-zero, sub-zero, pow-suc, lt-of-lt-of-le}
 use native.Mathlib.Omega.{arith}
@@ -13,7 +13,8 @@ use lib.Dec.{eqb}
 use borrow.Author.Tests.{eqb-true, eq-eqb, ne-eqb, lt-ltb, le-ltb}
 use Rattle.attribute_set.specs.Sets.{digit}
 use Rattle.attribute_set.specs.Sets.Laws.{digit-half, digit-high}
-use Rattle.context.specs.Objects.{Object}
+use Rattle.implication.specs.Pairs.{pairs}
+use Rattle.context.specs.Objects.{Object, objectsOf}
 use Rattle.burmeister.specs.declared.Kind.the-variants.{Marks}
 use Rattle.burmeister.specs.declared.Layout.{Layout}
 use Rattle.burmeister.specs.declared.Refusal.{Refusal}
@@ -25,9 +26,9 @@ use Rattle.burmeister.specs.Lines.Laws.{bytes-length, bytes-inside}
 use Rattle.burmeister.specs.Layout.{isMark, everywhere, refuseUnless, fault, lineFault, refusal, opening}
 use Rattle.burmeister.specs.Layout.Bytes.{length-bytes, bytes-at}
 use Rattle.burmeister.specs.Layout.Passed.{line-there, bytes-part, after-part, part-whole}
-use Rattle.burmeister.specs.Marks.{bitOf, wordOf, rowOf, rowsFrom, readingFrom, reading}
+use Rattle.burmeister.specs.Marks.{bitOf, wordOf, rowOf, rowsFrom, flat, readingFrom, reading}
 
-bit-lt : (t : Bool) → bitOf t < 2
+pub bit-lt : (t : Bool) → bitOf t < 2
 bit-lt true = omega arith
 bit-lt false = omega arith
 
@@ -140,3 +141,14 @@ module _ (words : ℕ) (file : List ℕ) where
 
         pub reading-whole : l .objects ≤ words / 2 → reading words file ≡ Read l
         reading-whole h = reading-open (Table l) e ∙ rw (readingFrom, le-ltb (words / 2) (l .objects) h)
+
+-- the words of the rows hold the rows
+pub rows-held : (k : ℕ) (file : List ℕ) (at : ℕ) (rest : List ℕ) → objectsOf k (flat (rowsFrom k file at) ++ rest) ≡ rowsFrom k file at
+unfolding rowsFrom flat pairs
+rows-held zero file at rest = refl
+rows-held (suc k) file at rest = ap (λ os. rowOf (bytesAt file at) ∷ os) (rows-held k file (after file at) rest)
+
+pub rows-count : (k : ℕ) (file : List ℕ) (at : ℕ) → length (rowsFrom k file at) ≡ k
+unfolding rowsFrom
+rows-count zero file at = refl
+rows-count (suc k) file at = ap suc (rows-count k file (after file at))

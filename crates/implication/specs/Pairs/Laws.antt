@@ -61,6 +61,16 @@ module _ {A : Type 0} (make : ℕ → ℕ → A) where
       let b : getD ws (suc i * 2 + 1) 0 ≡ getD (drop 2 ws) (i * 2 + 1) 0 = ap (λ (m : ℕ). getD ws m 0) k ∙ sym (getD-drop 2 ws (i * 2 + 1) 0) in
       List·Memᴰ·tail {xs = pairs make n (drop 2 ws)} (rw (a, b) (pairs-member n i (drop 2 ws) (omega arith)))
 
+  pub pairs-get : (n i : ℕ) (ws : List ℕ) (d : A) → i < n → getD (pairs make n ws) i d ≡ make (getD ws (i * 2) 0) (getD ws (i * 2 + 1) 0)
+  unfolding pairs
+  pairs-get zero i ws d h = absurd (omega arith)
+  pairs-get (suc n) zero ws d h = refl
+  pairs-get (suc n) (suc i) ws d h =
+      let j : suc i * 2 ≡ 2 + i * 2 = omega arith in
+      let k : suc i * 2 + 1 ≡ 2 + (i * 2 + 1) = omega arith in
+      pairs-get n i (drop 2 ws) d (omega arith) ∙ ap (λ x. make x (getD (drop 2 ws) (i * 2 + 1) 0)) (getD-drop 2 ws (i * 2) 0 ∙ ap (λ (m : ℕ). getD ws m 0) (sym j))
+      ∙ ap (λ x. make (getD ws (suc i * 2) 0) x) (getD-drop 2 ws (i * 2 + 1) 0 ∙ ap (λ (m : ℕ). getD ws m 0) (sym k))
+
   -- a pair written behind n pairs is the last of n + 1
   pub pairs-put : (n : ℕ) (ws : List ℕ) (a b : ℕ) → n * 2 + 1 < length ws
       → pairs make (suc n) (set (set ws (n * 2) a) (n * 2 + 1) b) ≡ pairs make n ws ++ (make a b ∷ [])

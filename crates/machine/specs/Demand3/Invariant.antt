@@ -84,10 +84,10 @@ opening-reached n lent B rows v =
 -- ---- the calls
 
 module _ (s : State) (h : Reached s) where
-  current-in : Sub (s .current) (full (s .n))
+  pub current-in : Sub (s .current) (full (s .n))
   current-in = h .explored .here .base .inside
 
-  moved-reached : (s .current ≡ full (s .n) → ⊥) → reachOf s ≡ s .current → Reached (moveTo s (next (force s) (s .n) (s .current)))
+  pub moved-reached : (s .current ≡ full (s .n) → ⊥) → reachOf s ≡ s .current → Reached (moveTo s (next (force s) (s .n) (s .current)))
   moved-reached ne e = record {
     over = h .over;
     consistent = h .consistent;
@@ -104,7 +104,7 @@ module _ (s : State) (h : Reached s) where
   with-question : force s ++ (question s ∷ []) ≡ withQuestion s
   with-question = append-assoc (s .background) (s .list) (question s ∷ [])
 
-  with-over : All (Over words (full (s .n))) (withQuestion s)
+  pub with-over : All (Over words (full (s .n))) (withQuestion s)
   with-over = subst (λ l. All (Over words (full (s .n))) l) with-question (all-snoc (force s) (question s) (h .over) question-over)
 
   -- the current set lies in its reach
@@ -116,7 +116,7 @@ module _ (s : State) (h : Reached s) where
   question-new t i =
       t .differs (sub-antisym (sub-trans (without-or (reachOf s) (s .current)) (or-least (sub-refl (s .current)) i)) current-reached)
 
-  yes-reached : Stands s → All (λ o. contradicts (withQuestion s) o ≡ false) (s .rows) → Reached (afterYes s)
+  pub yes-reached : Stands s → All (λ o. contradicts (withQuestion s) o ≡ false) (s .rows) → Reached (afterYes s)
   yes-reached t ok = record {
     over = with-over;
     consistent = ok;
@@ -134,7 +134,7 @@ module _ (s : State) (h : Reached s) where
         (λ o m q i. consistent-apart (withQuestion s) o (ok o m) i));
   }
 
-  no-reached : (o : Object) → contradicts (force s) o ≡ false → Reached (afterNo s o)
+  pub no-reached : (o : Object) → contradicts (force s) o ≡ false → Reached (afterNo s o)
   no-reached o ok =
       let all = all-snoc (s .rows) o (h .consistent) ok in
       record {

@@ -55,7 +55,7 @@ module _ (s : State) (h : Reached s) where
       (all-drop (s .background) (s .list) (h .over)) closure closure-least q i
 
   -- 3.
-  decided : Finished s → (r : Implication ℕ) → OverM (s .n) r → (follows (force s) r ≡ true) ↔ Unrefuted s r
+  pub decided : Finished s → (r : Implication ℕ) → OverM (s .n) r → (follows (force s) r ≡ true) ↔ Unrefuted s r
   decided done r over = (holds, back)
     where
       holds : follows (force s) r ≡ true → Unrefuted s r
@@ -84,7 +84,7 @@ module _ (s : State) (h : Reached s) where
   canonical-list = result.canonical words (Base s) (h .explored) (closure (force s)) (λ q b. least-model q (b .inside))
 
   -- 4.
-  shortest : (l : List (Implication ℕ)) → All (OverM (s .n)) l → SameConsequences (s .n) (s .background) (s .list) l → length (s .list) ≤ length l
+  pub shortest : (l : List (Implication ℕ)) → All (OverM (s .n)) l → SameConsequences (s .n) (s .background) (s .list) l → length (s .list) ≤ length l
   shortest l over same =
       minimal-list words (full (s .n)) (s .background) closure closure-least (s .list) l canonical-list over (consequences (s .n) (s .background) (s .list) l same)
 
@@ -98,7 +98,7 @@ agreed-all t (agreed q ∷ rs) h = all-cons (h (agreed q) (List·Memᴰ·head re
 agreed-all t (offered o ∷ rs) h = agreed-all t rs (λ r m. h r (List·Memᴰ·tail m))
 
 -- an object of which the table has a completion refutes nothing that holds in the table
-unrefuted-by : (t : List Object) (rs : List (Implication ℕ)) (o : Object) (r : Implication ℕ) → AgreesObject t o → AgreesImplication t r → refutes rs o r ≡ false
+pub unrefuted-by : (t : List Object) (rs : List (Implication ℕ)) (o : Object) (r : Implication ℕ) → AgreesObject t o → AgreesImplication t r → refutes rs o r ≡ false
 unrefuted-by t rs o r a h = go (refutes rs o r) refl
   where
     go : (b : Bool) → refutes rs o r ≡ b → b ≡ false

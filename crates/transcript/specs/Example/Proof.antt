@@ -14,9 +14,9 @@ use Rattle.burmeister.specs.Layout
 use Rattle.burmeister.specs.Marks.{wordOf, rowsFrom}
 use Rattle.burmeister.specs.Names.{completeFrom}
 use Rattle.transcript.specs.Text.{digits, setText, listLines}
-use Rattle.transcript.specs.Output.{answered, beat, beats, output}
+use Rattle.transcript.specs.Output.{answered, beat, beats, outputWith}
 use Rattle.transcript.specs.Example.{Example}
 
 pub example : Example
-unfolding full without inside meets fire pass close closure nextBelow lowest anywhere has lacks refutes firstRefuting markedTwice contradicts cut narrow reach questionStands firstFailing badLength strangeObject strangeImplication outsideM sessionChecks yesChecks noChecks performStep performed checksOf perform opening lineOf everywhere decimalFrom isCount countOf fault lineFault walk rest layoutOf Layout.opening wordOf rowsFrom completeFrom digits setText listLines answered beat beats output
+unfolding full without inside meets fire pass close closure nextBelow lowest anywhere has lacks refutes firstRefuting markedTwice contradicts cut narrow reach questionStands firstFailing badLength strangeObject strangeImplication outsideM sessionChecks yesChecks noChecks performStep performed checksOf perform opening lineOf everywhere decimalFrom isCount countOf fault lineFault walk rest layoutOf Layout.opening wordOf rowsFrom completeFrom digits setText listLines answered beat beats outputWith
 example = record { whole = refl; refused = refl }

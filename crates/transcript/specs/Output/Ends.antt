@@ -1,10 +1,10 @@
--- The interview ends for every complete table: the last beat is among the first `enough n`, so that their number is never what
+-- The interview ends for every complete table: the last beat is among the first `enough s`, so that their number is never what
 -- ends the output.
-use mathlib.Core.Path.{_≡_, refl, _∙_, subst}
+use mathlib.Core.Path.{_≡_, refl, ap, _∙_, subst}
 use mathlib.Core.Bool.{Bool, true, false}
-use mathlib.Core.List.{List, [], _∷_}
+use mathlib.Core.List.{List, [], _∷_, _++_}
 use Prim.Native.Nat.{ℕ, zero, suc, _+_, _*_, _-_, _/_, _^_, _<_}
-use native.Mathlib.Nat.{mul-lt-mul-of-pos-right}
+use native.Mathlib.Nat.{mul-lt-mul-of-pos-right, mul-le-mul-right}
 use native.Mathlib.Omega.{arith}
 use lib.ListN.{length, length-append, getD}
 use lib.Dec.{ltb}
@@ -12,20 +12,19 @@ use borrow.Author.Tests.{leb-false}
 use Rattle.theory.specs.Implications.{Implication}
 use Rattle.attribute_set.specs.Sets.{full}
 use Rattle.attribute_set.specs.Lectic.Rank.{rank, rank-lt, rank-before}
-use Rattle.implication.specs.Closure.{closure}
 use Rattle.implication.specs.Next.{next}
 use Rattle.implication.specs.Next.Laws.{next-is}
 use Rattle.context.specs.Objects.{Object, object, firstRefuting}
-use Rattle.machine.specs.Checks.{State, force, question, withQuestion, sessionChecks, noChecks}
+use Rattle.machine.specs.Checks.{Lent, State, force, question, withQuestion, sessionChecks, noChecks}
 use Rattle.machine.specs.Checks.Laws.{passed-append}
 use Rattle.machine.specs.Machine.{step, accept, reject, Turn, moveTo, afterYes, afterNo, performStep, performed, checksOf, perform, opened, opening}
-use Rattle.machine.specs.Machine.Laws.{perform-cases, perform-accepted, step-cases, opened-is}
+use Rattle.machine.specs.Machine.Laws.{perform-cases, perform-accepted, step-cases}
 use Rattle.machine.specs.Demand3.Invariant.{Reached, perform-reached, opened-reached}
-use Rattle.transcript.specs.Output.{Beat, more, last, replied, answered, stepped, beat, ended, lent, enough}
+use Rattle.transcript.specs.Output.{Beat, more, last, replied, answered, stepped, beat, beats, ended, enough}
 use Rattle.transcript.specs.Text.{yesLine, noLine}
 
 -- how far the interview can still go: the later sets, each with all places for rows, and the places that are free now
-measure : State → ℕ
+unfoldable pub measure : State → ℕ
 measure s = (2 ^ s .n - rank (s .n) (s .current)) * suc (s .lent .rows / 2) + (s .lent .rows / 2 - length (s .rows))
 
 -- a set that comes later leaves less to go
@@ -36,9 +35,9 @@ later-less a b r r′ p h k =
     omega (arith, mul-lt-mul-of-pos-right l z)
 
 -- a beat that goes on keeps the invariant and comes nearer to the end
-record Falls (s s′ : State) : Type 0 where
-  reached : Reached s′
-  less : measure s′ < measure s
+pub record Falls (s s′ : State) : Type 0 where
+  pub reached : Reached s′
+  pub less : measure s′ < measure s
 
 module _ (s : State) (h : Reached s) (open′ : s .current ≡ full (s .n) → ⊥) where
   move-falls : (c : Reached (moveTo s (next (force s) (s .n) (s .current)))) → Falls s (moveTo s (next (force s) (s .n) (s .current)))
@@ -95,13 +94,13 @@ module _ (table : List Object) (s : State) (changes : ℕ) (h : Reached s) (line
             | true ↦
                 let row = firstRefuting [] table q in
                 let t = perform s (reject (getD table row (object 0 0))) in
-                replied (noLine (s .n) q row) changes (t .answer) (t .after)
+                replied (noLine (s .n) q (row + 1)) changes (t .answer) (t .after)
             | false ↦ let t = perform s accept in replied (yesLine (s .n) q) (suc changes) (t .answer) (t .after)
           ]) (more line s′ c′) → Falls s s′
       go true e = no-reply _ _ _ e
       go false e = yes-reply ne _ _ e
 
-  beat-falls : beat table s changes ≡ more line s′ c′ → Falls s s′
+  pub beat-falls : beat table s changes ≡ more line s′ c′ → Falls s s′
   unfolding beat performed checksOf
   beat-falls = perform-cases s step (λ t. stepped table s changes (t .answer) (t .after) ≡ more line s′ c′ → Falls s s′)
       (λ e. step-cases s (λ t. performStep s ≡ t → stepped table s changes (t .answer) (t .after) ≡ more line s′ c′ → Falls s s′)
@@ -123,9 +122,25 @@ ends-within (suc k) table s changes h l = go (beat table s changes) refl (λ s�
         ih s′ c′ (f .reached) (omega (arith, f .less))
     go (last line) e ih = refl
 
--- the interview of a table ends in its last beat
-pub interview-ends : (table : List Object) (n : ℕ) (s : State) → opening n lent [] [] ≡ opened s → ended (enough n) table s 0 ≡ true
+-- and more of them write the same
+pub beats-same : (k j : ℕ) (table : List Object) (s : State) (changes : ℕ) → Reached s → measure s < k → measure s < j → beats k table s changes ≡ beats j table s changes
+unfolding beats
+beats-same zero j table s changes h l m = absurd (omega arith)
+beats-same (suc k) zero table s changes h l m = absurd (omega arith)
+beats-same (suc k) (suc j) table s changes h l m = go (beat table s changes) refl (λ s′ c′ r f. beats-same k j table s′ c′ r (omega (arith, f)) (omega (arith, f)))
+  where
+    go : (b : Beat) → beat table s changes ≡ b → ((s′ : State) (c′ : ℕ) → Reached s′ → measure s′ < measure s → beats k table s′ c′ ≡ beats j table s′ c′)
+        → _≡_ {A = List ℕ} (elim b [ more line s′ c′ ↦ line ++ beats k table s′ c′ | last line ↦ line ])
+        (elim b [ more line s′ c′ ↦ line ++ beats j table s′ c′ | last line ↦ line ])
+    go (more line s′ c′) e ih =
+        let f = beat-falls table s changes h line s′ c′ e in
+        ap (λ l. line ++ l) (ih s′ c′ (f .reached) (f .less))
+    go (last line) e ih = refl
+
+pub measure-enough : (s : State) → measure s < enough s
 unfolding measure
-interview-ends table n s e =
-    let t = opened-is n lent [] [] s e .0 in
-    ends-within (enough n) table s 0 (opened-reached n lent [] [] s e) (rw t (omega (arith, rank-lt n (closure [] 0))))
+measure-enough s = omega (arith, mul-le-mul-right {m = 2 ^ s .n - rank (s .n) (s .current)} {n = 2 ^ s .n} (suc (s .lent .rows / 2)) (omega arith))
+
+-- the interview of a table ends in its last beat
+pub interview-ends : (table : List Object) (n : ℕ) (lent : Lent) (s : State) → opening n lent [] [] ≡ opened s → ended (enough s) table s 0 ≡ true
+interview-ends table n lent s e = ends-within (enough s) table s 0 (opened-reached n lent [] [] s e) (measure-enough s)

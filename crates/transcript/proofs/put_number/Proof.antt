@@ -1,0 +1,75 @@
+-- The page so far, with the digits from a power of ten on, makes the page with the whole number.
+use mathlib.Core.Path.{_≡_, sym, ap, _∙_}
+use Prim.Native.Nat.{ℕ, _+_, _/_, _%_}
+use borrow.Author.Needs.{needs}
+use Rattle.transcript.specs.Text.{numberText}
+use Rattle.transcript.specs.Text.Digits.{low, lead, digit-next, digit-end}
+use Rattle.transcript.specs.Page.{page, text}
+use Rattle.transcript.specs.Page.Laws.{text-step, text-end, same-size}
+use Rattle.transcript.proofs.put_number.Statement.{statement}
+use Rattle.transcript.proofs.put_number.Tie as tie
+
+abbrev Inv-loop : tie.InvT-loop
+Inv-loop out₀ at n to₀ power₀ out to power =
+    (k : ℕ) × (power ≡ lead k) × (text (page out to) (low k n) ≡ text (page out₀ at) (numberText n))
+
+abbrev μ-loop : tie.MeasureT-loop
+μ-loop out₀ at n to₀ power₀ out to power = power
+
+power-of-requires : tie.Need-power-of-requires Inv-loop μ-loop
+power-of-requires c κs = search needs
+
+loop-holds : tie.Need-loop-holds Inv-loop μ-loop
+loop-holds c =
+    let a = c .before .before .args in
+    let h = c .power-of .ensures in
+    (h .size, h .first, ap (text (page (a .out .now) (a .at))) (sym (h .whole)))
+
+div-put-byte : tie.Need-div-put-byte Inv-loop μ-loop
+div-put-byte c = search needs
+
+cast-put-byte : tie.Need-cast-put-byte Inv-loop μ-loop
+cast-put-byte c = search needs
+
+add-put-byte : tie.Need-add-put-byte Inv-loop μ-loop
+add-put-byte c = search needs
+
+put-byte-requires : tie.Need-put-byte-requires Inv-loop μ-loop
+put-byte-requires c κs = search needs
+
+loop-less : tie.Need-loop-less Inv-loop μ-loop
+loop-less c = search needs
+
+loop-again : tie.Need-loop-again Inv-loop μ-loop
+loop-again c =
+    let l = c .before .before .before .before .before .loop in
+    let n = c .before .before .before .before .before .before .before .before .args .n in
+    let p = page (l .out) (l .to) in
+    let d = digit-next n (l .inv .0) (l .power) (l .inv .1) (search needs) in
+    let t = text-step p (48 + n / l .power % 10) (low (d .0) n) (c .before .before .put-byte .ensures) in
+    (d .0, d .1, t ∙ ap (text p) (sym (d .2)) ∙ l .inv .2)
+
+same-length : tie.Need-same-length Inv-loop μ-loop
+same-length c = same-size _ _ _ _ (c .before .loop .inv .2)
+
+returns : tie.Need-returns Inv-loop μ-loop
+returns c =
+    let l = c .before .loop in
+    text-end (page (l .out) (l .to)) _ (digit-end _ (l .inv .0) (l .power) (l .inv .1) (search needs)) ∙ l .inv .2
+
+pub put-number-spec : {M : Type 1} → statement M
+put-number-spec =
+    tie.close
+    (tie.spec
+    Inv-loop
+    μ-loop
+    power-of-requires
+    loop-holds
+    div-put-byte
+    cast-put-byte
+    add-put-byte
+    put-byte-requires
+    loop-less
+    loop-again
+    same-length
+    returns)

@@ -1,0 +1,63 @@
+-- One beat of the interview below the checks: it costs one reach and one next set. Of all refusals only the last is left, a full
+-- list or full rows (01: 12). `Beats` proves that an interview of a complete table, which passes every other check, has these beats,
+-- `Kept` that it stays one, `Conclusion` how it ends, and `Size` how much it writes.
+use mathlib.Core.Bool.{true, false}
+use mathlib.Core.List.{List, [], _++_}
+use Prim.Native.Nat.{ℕ, suc, _+_, _/_, min}
+use lib.ListN.{length, getD}
+use lib.Dec.{eqb, ltb, leb}
+use Rattle.theory.specs.Implications.{Implication}
+use Rattle.attribute_set.specs.Sets.{full}
+use Rattle.implication.specs.Next.{next}
+use Rattle.context.specs.Objects.{Object, object, firstRefuting}
+use Rattle.machine.specs.Checks.{State, Refusal, force, reachOf, question}
+use Rattle.machine.specs.Machine.{moveTo, afterYes, afterNo}
+use Rattle.transcript.specs.Text.{yesLine, noLine, refusalLine}
+use Rattle.transcript.specs.Output.{Beat, more, last, closing}
+pub mod Along
+pub mod Beats
+pub mod Kept
+pub mod Conclusion
+pub mod Size
+pub mod Program
+
+-- one change of the current set more; a word holds as many as there are sets, so that the limit is never met
+abbrev pub counted : ℕ → ℕ
+counted changes = min (suc changes) 18446744073709551615
+
+-- no place is left
+abbrev pub full-up : Refusal
+full-up = record { number = 12; place = 0 }
+
+-- no, with the row at this place of the table
+unfoldable pub coreNo : State → ℕ → Implication ℕ → ℕ → Object → Beat
+coreNo s changes q row o =
+    elim (leb (s .lent .rows / 2) (length (s .rows))) [
+      | true ↦ last (noLine (s .n) q (row + 1) ++ refusalLine full-up)
+      | false ↦ more (noLine (s .n) q (row + 1)) (afterNo s o) changes
+    ]
+
+-- yes
+unfoldable pub coreYes : State → ℕ → Implication ℕ → Beat
+coreYes s changes q =
+    elim (leb (s .lent .list / 2) (length (s .list))) [
+      | true ↦ last (yesLine (s .n) q ++ refusalLine full-up)
+      | false ↦ more (yesLine (s .n) q) (afterYes s) (counted changes)
+    ]
+
+unfoldable pub coreReply : List Object → State → ℕ → Implication ℕ → Beat
+coreReply table s changes q =
+    elim (ltb (firstRefuting [] table q) (length table)) [
+      | true ↦ coreNo s changes q (firstRefuting [] table q) (getD table (firstRefuting [] table q) (object 0 0))
+      | false ↦ coreYes s changes q
+    ]
+
+unfoldable pub coreBeat : List Object → State → ℕ → Beat
+coreBeat table s changes =
+    elim (eqb (s .current) (full (s .n))) [
+      | true ↦ last (closing s changes)
+      | false ↦ elim (eqb (reachOf s) (s .current)) [
+        | true ↦ more [] (moveTo s (next (force s) (s .n) (s .current))) (counted changes)
+        | false ↦ coreReply table s changes (question s)
+      ]
+    ]

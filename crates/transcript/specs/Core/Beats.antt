@@ -1,0 +1,183 @@
+-- A beat of an interview of a complete table is the beat below the checks (`core-beat`).
+use mathlib.Core.Path.{_≡_, refl, sym, ap, _∙_, subst}
+use mathlib.Core.Bool.{Bool, true, false, not}
+use mathlib.Core.List.{List, [], _∷_, _++_, List·Memᴰ, List·Memᴰ·head, List·Memᴰ·tail, append-assoc}
+use Prim.Native.Nat.{ℕ, zero, suc, _+_, _/_, _^_, _≤_, _<_}
+use native.Mathlib.Omega.{arith}
+use lib.ListN.{length, getD}
+use lib.Dec.{eqb, ltb, leb}
+use lib.Pow.{pow-mono}
+use borrow.Author.Tests.{eq-eqb, ne-eqb, ltb-true, ltb-false}
+use Rattle.theory.specs.Lists.{All}
+use Rattle.theory.specs.Lists.Laws.{all-snoc}
+use Rattle.theory.specs.Implications.{Implication, Over}
+use Rattle.attribute_set.specs.Sets.{full}
+use Rattle.attribute_set.specs.Lectic.Rank.{rank, rank-lt, rank-before}
+use Rattle.attribute_set.specs.Words.{words}
+use Rattle.implication.specs.Next.{next}
+use Rattle.implication.specs.Next.Laws.{next-is}
+use Rattle.context.specs.Places.Laws.{lowest-at, none-lowest, all-anywhere}
+use Rattle.context.specs.Objects.{Object, object, refutes, firstRefuting, contradicts}
+use Rattle.context.specs.Objects.Laws.{has-written, lacks-written, apart-marked}
+use Rattle.context.specs.Tables.{AgreesImplication}
+use Rattle.context.specs.Tables.Laws.{no-contradiction}
+use Rattle.machine.specs.Checks.{State, check, force, reachOf, questionStands, question, withQuestion, mostAttributes, firstFailing, sessionChecks, yesChecks, noChecks}
+use Rattle.machine.specs.Checks.Laws.{or-false, Stands, passed, failing-nothing, failing-here, failing-later, failing-append}
+use Rattle.machine.specs.Machine.{Call, step, accept, reject, taken, turn, moveTo, afterYes, afterNo, performed, checksOf, perform}
+use Rattle.machine.specs.Machine.Laws.{perform-refused, perform-accepted, step-cases}
+use Rattle.machine.specs.Demand3.Invariant.{with-over}
+use Rattle.transcript.specs.Text.{yesLine, noLine, listLines, endLine, refusalLine}
+use Rattle.transcript.specs.Output.{Beat, more, last, replied, answered, stepped, beat}
+use Rattle.transcript.specs.Core.{counted, full-up, coreNo, coreYes, coreReply, coreBeat}
+use Rattle.transcript.specs.Core.Along.{Along, in-familiar, or-none, own-row, row-in, agrees-force, row-consistent, session-passes}
+
+-- ---- the row that refutes
+
+at-member : (l : List Object) (i : ℕ) (d : Object) → i < length l → List·Memᴰ (getD l i d) l
+at-member [] i d h = absurd (omega arith)
+at-member (o ∷ l) zero d h = List·Memᴰ·head refl
+at-member (o ∷ l) (suc i) d h = List·Memᴰ·tail (at-member l i d (omega arith))
+
+-- a row refutes by its own marks, whatever is in force
+refutes-same : (rs ts : List (Implication ℕ)) (o : Object) (r : Implication ℕ) → refutes rs o r ≡ refutes ts o r
+unfolding refutes
+refutes-same rs ts o r = rw (has-written rs o, has-written ts o, lacks-written rs o, lacks-written ts o) refl
+
+-- a row of the table that refutes q
+pub record Refuting (table : List Object) (q : Implication ℕ) (o : Object) : Type 0 where
+  pub member : List·Memᴰ o table
+  pub refutes : refutes [] o q ≡ true
+
+module _ (table : List Object) (q : Implication ℕ) where
+  pub row-refutes : ltb (firstRefuting [] table q) (length table) ≡ true → Refuting table q (getD table (firstRefuting [] table q) (object 0 0))
+  unfolding firstRefuting
+  row-refutes e =
+      let l = ltb-true _ _ e in
+      record { member = at-member table _ _ l; refutes = lowest-at _ table (object 0 0) l .0 }
+
+  pub none-refutes : ltb (firstRefuting [] table q) (length table) ≡ false → AgreesImplication table q
+  unfolding firstRefuting
+  none-refutes e = none-lowest _ table (ltb-false _ _ e)
+
+-- ---- the count of changes
+
+module _ (table : List Object) (s : State) (changes : ℕ) (a : Along table s changes) where
+  -- the next set's place counts one change more
+  pub later-counts : (rs : List (Implication ℕ)) → All (Over words (full (s .n))) rs → (s .current ≡ full (s .n) → ⊥)
+      → suc changes ≤ rank (s .n) (next rs (s .n) (s .current))
+  later-counts rs over open′ =
+      let t = next-is rs (s .n) (s .current) over (a .reached .explored .here .base .inside) open′ in
+      omega (arith, a .counts, rank-before (s .n) (t .later) (t .inside))
+
+  -- and a word holds every place
+  pub counted-is : (x : ℕ) → suc changes ≤ rank (s .n) x → counted changes ≡ suc changes
+  counted-is x h =
+      let n-most = ltb-false mostAttributes (s .n) (or-false (eqb (s .n) 0) _ (a .attributes) .1) in
+      let small : 2 ^ s .n ≤ 2 ^ 64 = pow-mono n-most in
+      omega (arith, small, rank-lt (s .n) x)
+
+  -- ---- a reply
+
+  -- a reply for which only the check for places is left is refused where there is none, and taken where there is one
+  replied-core : (c : Call) (after : State) (none-left : Bool) (line : List ℕ) (count count′ : ℕ) → count ≡ count′
+      → firstFailing (checksOf s c) ≡ firstFailing (check 12 none-left 0 ∷ []) → performed s c ≡ turn taken after
+      → replied line count (perform s c .answer) (perform s c .after)
+      ≡ elim none-left [ true ↦ last (line ++ refusalLine full-up) | false ↦ more line after count′ ]
+  replied-core c after true line count count′ k e p =
+      rw (perform-refused s c full-up (e ∙ failing-here (check 12 true 0) [] refl)) refl
+  replied-core c after false line count count′ k e p =
+      rw (perform-accepted s c (e ∙ failing-later (check 12 false 0) [] refl ∙ failing-nothing), p) (ap (more line after) k)
+
+  module _ (t : Stands s) where
+    standing : not (questionStands s) ≡ false
+    unfolding questionStands
+    standing = rw (ne-eqb _ _ (t .below), questionStands) (rw (ne-eqb _ _ (t .differs)) refl)
+
+    -- the checks of a no with a row of the table that refutes
+    no-checks : (o : Object) → Refuting table (question s) o
+        → firstFailing (checksOf s (reject o)) ≡ firstFailing (check 12 (leb (s .lent .rows / 2) (length (s .rows))) 0 ∷ [])
+    unfolding checksOf noChecks
+    no-checks o r =
+        let once = apart-marked o (a .complete o (r .member) .apart) in
+        let fitting = or-none _ _ (in-familiar (s .n) o (row-in table s changes a o (r .member))) once in
+        let refuting = ap not (refutes-same (force s) [] o (question s) ∙ r .refutes) in
+        failing-append (sessionChecks s []) (noChecks s o) (passed _ (session-passes table s changes a))
+        ∙ failing-later _ _ standing ∙ failing-later _ _ fitting ∙ failing-later _ _ refuting
+        ∙ failing-later _ _ (row-consistent table s changes a o (r .member))
+
+    core-no : (o : Object) (row : ℕ) → Refuting table (question s) o
+        → replied (noLine (s .n) (question s) (row + 1)) changes (perform s (reject o) .answer) (perform s (reject o) .after)
+        ≡ coreNo s changes (question s) row o
+    unfolding performed coreNo
+    core-no o row r = replied-core (reject o) (afterNo s o) _ _ changes changes refl (no-checks o r) refl
+
+    -- where the table agrees with the question no row of it contradicts, with the question in the list
+    pub yes-consistent : AgreesImplication table (question s) → (o : Object) → List·Memᴰ o table → contradicts (withQuestion s) o ≡ false
+    yes-consistent agrees o m =
+        no-contradiction (s .n) table (withQuestion s) o (a .complete) (with-over s (a .reached))
+        (subst (λ l. All (AgreesImplication table) l) (append-assoc (s .background) (s .list) (question s ∷ []))
+        (all-snoc (force s) (question s) (agrees-force table s changes a) agrees)) (own-row table o m)
+
+    -- the checks of a yes where the table agrees
+    yes-checks : AgreesImplication table (question s)
+        → firstFailing (checksOf s accept) ≡ firstFailing (check 12 (leb (s .lent .list / 2) (length (s .list))) 0 ∷ [])
+    unfolding checksOf yesChecks
+    yes-checks agrees =
+        failing-append (sessionChecks s []) (yesChecks s) (passed _ (session-passes table s changes a))
+        ∙ failing-later _ _ standing
+        ∙ failing-later _ _ (all-anywhere _ (s .rows) (λ o m. yes-consistent agrees o (a .rows o m)))
+
+    core-yes : AgreesImplication table (question s)
+        → replied (yesLine (s .n) (question s)) (suc changes) (perform s accept .answer) (perform s accept .after)
+        ≡ coreYes s changes (question s)
+    unfolding performed coreYes
+    core-yes agrees =
+        let count = sym (counted-is _ (later-counts (withQuestion s) (with-over s (a .reached)) (t .below))) in
+        replied-core accept (afterYes s) _ _ (suc changes) (counted changes) count (yes-checks agrees) refl
+
+    core-answer : answered table s changes (question s) ≡ coreReply table s changes (question s)
+    unfolding answered coreReply
+    core-answer = go (ltb (firstRefuting [] table (question s)) (length table)) refl
+      where
+        row : ℕ
+        row = firstRefuting [] table (question s)
+
+        o : Object
+        o = getD table row (object 0 0)
+
+        go : (b : Bool) → ltb row (length table) ≡ b
+            → _≡_ {A = Beat} (elim b [
+              | true ↦ replied (noLine (s .n) (question s) (row + 1)) changes (perform s (reject o) .answer) (perform s (reject o) .after)
+              | false ↦ replied (yesLine (s .n) (question s)) (suc changes) (perform s accept .answer) (perform s accept .after)
+            ]) (elim b [ true ↦ coreNo s changes (question s) row o | false ↦ coreYes s changes (question s) ])
+        go true e = core-no o row (row-refutes table (question s) e)
+        go false e = core-yes (none-refutes table (question s) e)
+
+-- ---- the beat
+
+-- the beat below the checks, by cases of a step
+module _ (table : List Object) (s : State) (changes : ℕ) where
+  pub core-last : s .current ≡ full (s .n)
+      → coreBeat table s changes ≡ last (listLines (s .n) (s .list) ++ endLine (length (s .list)) (length (s .rows)) changes)
+  unfolding coreBeat
+  core-last e = rw (eq-eqb _ _ e, coreBeat) refl
+
+  pub core-moved : (s .current ≡ full (s .n) → ⊥) → reachOf s ≡ s .current
+      → coreBeat table s changes ≡ more [] (moveTo s (next (force s) (s .n) (s .current))) (counted changes)
+  unfolding coreBeat
+  core-moved ne e = rw (ne-eqb _ _ ne, coreBeat) (rw (eq-eqb _ _ e) refl)
+
+  pub core-asked : (s .current ≡ full (s .n) → ⊥) → (reachOf s ≡ s .current → ⊥) → coreBeat table s changes ≡ coreReply table s changes (question s)
+  unfolding coreBeat
+  core-asked ne d = rw (ne-eqb _ _ ne, coreBeat) (rw (ne-eqb _ _ d) refl)
+
+pub core-beat : (table : List Object) (s : State) (changes : ℕ) → Along table s changes → beat table s changes ≡ coreBeat table s changes
+unfolding beat performed checksOf
+core-beat table s changes a =
+    rw (perform-accepted s step (session-passes table s changes a))
+    (step-cases s (λ t. stepped table s changes (t .answer) (t .after) ≡ coreBeat table s changes)
+    (λ e. sym (core-last table s changes e))
+    (λ ne e.
+    let count = counted-is table s changes a _ (later-counts table s changes a (force s) (a .reached .over) ne) in
+    ap (more [] (moveTo s (next (force s) (s .n) (s .current)))) (sym count) ∙ sym (core-moved table s changes ne e))
+    (λ ne d. core-answer table s changes a (record { below = ne; differs = d }) ∙ sym (core-asked table s changes ne d)))

@@ -1,0 +1,201 @@
+-- Every interview of a complete table ends (`conclusion`): either in END, with a list that is decided and shortest for the
+-- table, or in `E 12 0`, the refusal of a reply for which there is no place.
+use mathlib.Core.Path.{_≡_, refl, sym, ap, _∙_, subst}
+use mathlib.Core.Logic.{_⊎_, inl, inr, _↔_}
+use mathlib.Core.Bool.{Bool, true, false}
+use mathlib.Core.List.{List, [], _++_, List·Memᴰ, append-assoc}
+use Prim.Native.Nat.{ℕ, zero, suc, _+_, _/_, _≤_, _<_}
+use native.Mathlib.Omega.{arith}
+use lib.ListN.{length, getD}
+use lib.Dec.{ltb, leb}
+use borrow.Author.Tests.{eq-eqb}
+use Rattle.theory.specs.Lists.{All}
+use Rattle.theory.specs.Implications.{Implication}
+use Rattle.attribute_set.specs.Sets.{full}
+use Rattle.implication.specs.Closure.{follows}
+use Rattle.context.specs.Objects.{Object, object, firstRefuting}
+use Rattle.context.specs.Tables.{Table, AgreesImplication}
+use Rattle.context.specs.Tables.Laws.{follows-tables}
+use Rattle.machine.specs.Checks.{Lent, State, force, question}
+use Rattle.machine.specs.Machine.{step, performStep, performed, checksOf, opening, opened, afterNo, afterYes}
+use Rattle.machine.specs.Machine.Laws.{perform-accepted, step-cases, opened-is}
+use Rattle.machine.specs.Demand3.{OverM, Finished}
+use Rattle.machine.specs.Demand3.Theorem.{decided, shortest, unrefuted-by}
+use Rattle.transcript.specs.Text.{yesLine, noLine, listLines, endLine, refusalLine}
+use Rattle.transcript.specs.Output.{Beat, more, last, beat, beats, enough}
+use Rattle.transcript.specs.Output.Ends.{measure, measure-enough, beat-falls}
+use Rattle.transcript.specs.Core.{counted, full-up, coreNo, coreYes, coreReply, coreBeat}
+use Rattle.transcript.specs.Core.Along.{Along, own-row, agrees-force, session-passes}
+use Rattle.transcript.specs.Core.Beats.{core-last, core-moved, core-asked, core-beat}
+use Rattle.transcript.specs.Core.Kept.{core-kept, opened-along}
+
+-- just the implications that hold in the table follow from the list
+abbrev pub Decides : ℕ → List Object → List (Implication ℕ) → Type 0
+Decides n table l = (r : Implication ℕ) → OverM n r → (follows l r ≡ true) ↔ AgreesImplication table r
+
+-- the output ends in the L lines and the END line of a list that is decided and shortest for the table
+pub record Concluded (n : ℕ) (table : List Object) (text : List ℕ) : Type 0 where
+  pub before : List ℕ
+  pub list : List (Implication ℕ)
+  pub rows : List Object
+  pub changes : ℕ
+  pub whole : text ≡ before ++ (listLines n list ++ endLine (length list) (length rows) changes)
+  pub filed : All (λ o. List·Memᴰ o table) rows
+  pub decides : Decides n table list
+  pub shortest : (l : List (Implication ℕ)) → All (OverM n) l → Decides n table l → length list ≤ length l
+
+-- the output ends in the refusal of a reply for which there is no place, its Q line before it
+pub record Full (n : ℕ) (text : List ℕ) : Type 0 where
+  pub before : List ℕ
+  pub question : Implication ℕ
+  pub reply : List ℕ
+  pub replies : (reply ≡ yesLine n question) ⊎ ((row : ℕ) × (reply ≡ noLine n question row))
+  pub whole : text ≡ before ++ (reply ++ refusalLine full-up)
+
+-- ---- at M
+
+module _ (table : List Object) (s : State) (changes : ℕ) (a : Along table s changes) where
+  -- the background is empty: what is in force is the list
+  in-list : force s ≡ s .list
+  in-list = ap (λ b. b ++ s .list) (a .background)
+
+  module _ (end : s .current ≡ full (s .n)) where
+    is-finished : Finished s
+    unfolding performed checksOf performStep
+    is-finished = rw (perform-accepted s step (session-passes table s changes a), eq-eqb _ _ end, performStep) refl
+
+    list-decides : Decides (s .n) table (s .list)
+    list-decides r i = (
+      λ e. follows-tables (s .n) (force s) (a .reached .over) r i .0 (rw in-list e) table (a .complete) (agrees-force table s changes a),
+      λ h. subst (λ l. follows l r ≡ true) in-list
+          (decided s (a .reached) is-finished r i .1 (λ o m. unrefuted-by table (force s) o r (own-row table o (a .rows o m)) h)),
+    )
+
+    list-shortest : (l : List (Implication ℕ)) → All (OverM (s .n)) l → Decides (s .n) table l → length (s .list) ≤ length l
+    list-shortest l over decides = shortest s (a .reached) l over (subst
+        (λ b. (r : Implication ℕ) → OverM (s .n) r → (follows (b ++ s .list) r ≡ true) ↔ (follows (b ++ l) r ≡ true)) (sym (a .background))
+        (λ r i. (λ e. decides r i .1 (list-decides r i .0 e), λ e. list-decides r i .1 (decides r i .0 e))))
+
+    concluded : Concluded (s .n) table (listLines (s .n) (s .list) ++ endLine (length (s .list)) (length (s .rows)) changes)
+    concluded = record {
+      before = [];
+      list = s .list;
+      rows = s .rows;
+      changes = changes;
+      whole = refl;
+      filed = a .rows;
+      decides = list-decides;
+      shortest = list-shortest;
+    }
+
+-- ---- the last beat
+
+-- how the output ends
+abbrev Conclusion : ℕ → List Object → List ℕ → Type 0
+Conclusion n table text = Concluded n table text ⊎ Full n text
+
+-- what stands before it is part of the output
+behind : (n : ℕ) (table : List Object) (line text : List ℕ) → Conclusion n table text → Conclusion n table (line ++ text)
+behind n table line text (inl c) = inl (record {
+  before = line ++ c .before;
+  list = c .list;
+  rows = c .rows;
+  changes = c .changes;
+  whole = ap (λ t. line ++ t) (c .whole) ∙ sym (append-assoc line (c .before) _);
+  filed = c .filed;
+  decides = c .decides;
+  shortest = c .shortest;
+})
+behind n table line text (inr f) = inr (record {
+  before = line ++ f .before;
+  question = f .question;
+  reply = f .reply;
+  replies = f .replies;
+  whole = ap (λ t. line ++ t) (f .whole) ∙ sym (append-assoc line (f .before) _);
+})
+
+not-last : (line line′ : List ℕ) (s′ : State) (c′ : ℕ) → more line s′ c′ ≡ last line′ → ⊥
+not-last line line′ s′ c′ e = let z : _≡_ {A = ℕ} 0 1 = cc in omega arith
+
+same-line : (line line′ : List ℕ) → last line ≡ last line′ → line ≡ line′
+same-line line line′ e = cc
+
+module _ (table : List Object) (s : State) (changes : ℕ) (line : List ℕ) where
+  -- a reply that ends the interview is refused for want of a place
+  no-full : (row : ℕ) (o : Object) → coreNo s changes (question s) row o ≡ last line → Full (s .n) line
+  unfolding coreNo
+  no-full row o = go (leb (s .lent .rows / 2) (length (s .rows)))
+    where
+      go : (b : Bool)
+          → _≡_ {A = Beat} (elim b [
+            | true ↦ last (noLine (s .n) (question s) (row + 1) ++ refusalLine full-up)
+            | false ↦ more (noLine (s .n) (question s) (row + 1)) (afterNo s o) changes
+          ]) (last line) → Full (s .n) line
+      go true e = record {
+        before = [];
+        question = question s;
+        reply = noLine (s .n) (question s) (row + 1);
+        replies = inr (row + 1, refl);
+        whole = sym (same-line _ _ e);
+      }
+      go false e = absurd (not-last _ _ _ _ e)
+
+  yes-full : coreYes s changes (question s) ≡ last line → Full (s .n) line
+  unfolding coreYes
+  yes-full = go (leb (s .lent .list / 2) (length (s .list)))
+    where
+      go : (b : Bool)
+          → _≡_ {A = Beat} (elim b [
+            | true ↦ last (yesLine (s .n) (question s) ++ refusalLine full-up)
+            | false ↦ more (yesLine (s .n) (question s)) (afterYes s) (counted changes)
+          ]) (last line) → Full (s .n) line
+      go true e = record { before = []; question = question s; reply = yesLine (s .n) (question s); replies = inl refl; whole = sym (same-line _ _ e) }
+      go false e = absurd (not-last _ _ _ _ e)
+
+  reply-full : coreReply table s changes (question s) ≡ last line → Full (s .n) line
+  unfolding coreReply
+  reply-full = go (ltb row (length table))
+    where
+      row : ℕ
+      row = firstRefuting [] table (question s)
+
+      o : Object
+      o = getD table row (object 0 0)
+
+      go : (b : Bool)
+          → _≡_ {A = Beat} (elim b [ true ↦ coreNo s changes (question s) row o | false ↦ coreYes s changes (question s) ]) (last line)
+          → Full (s .n) line
+      go true e = no-full row o e
+      go false e = yes-full e
+
+  last-concludes : Along table s changes → coreBeat table s changes ≡ last line → Conclusion (s .n) table line
+  last-concludes a k =
+      step-cases s (λ t. Conclusion (s .n) table line)
+      (λ e. subst (λ t. Conclusion (s .n) table t) (same-line _ _ (sym (core-last table s changes e) ∙ k)) (inl (concluded table s changes a e)))
+      (λ ne e. absurd (not-last _ _ _ _ (sym (core-moved table s changes ne e) ∙ k)))
+      (λ ne d. inr (reply-full (sym (core-asked table s changes ne d) ∙ k)))
+
+-- ---- all beats
+
+-- with more beats than there is to go, the last is among them
+concludes : (k : ℕ) (table : List Object) (s : State) (changes : ℕ) → Along table s changes → measure s < k
+    → Conclusion (s .n) table (beats k table s changes)
+unfolding beats
+concludes zero table s changes a l = absurd (omega arith)
+concludes (suc k) table s changes a l = go (beat table s changes) refl (λ s′ c′ b m. concludes k table s′ c′ b m)
+  where
+    go : (b : Beat) → beat table s changes ≡ b
+        → ((s′ : State) (c′ : ℕ) → Along table s′ c′ → measure s′ < k → Conclusion (s′ .n) table (beats k table s′ c′))
+        → Conclusion (s .n) table (elim b [ more line s′ c′ ↦ line ++ beats k table s′ c′ | last line ↦ line ])
+    go (more line s′ c′) e ih =
+        let kept = core-kept table s changes a line s′ c′ (sym (core-beat table s changes a) ∙ e) in
+        let less = beat-falls table s changes (a .reached) line s′ c′ e .less in
+        behind (s .n) table line _
+        (subst (λ n. Conclusion n table (beats k table s′ c′)) (kept .same-n) (ih s′ c′ (kept .along) (omega (arith, less))))
+    go (last line) e ih = last-concludes table s changes line a (sym (core-beat table s changes a) ∙ e)
+
+pub conclusion : (table : List Object) (n : ℕ) (lent : Lent) (s : State) → Table n table → opening n lent [] [] ≡ opened s
+    → Concluded n table (beats (enough s) table s 0) ⊎ Full n (beats (enough s) table s 0)
+conclusion table n lent s complete e =
+    subst (λ k. Conclusion k table (beats (enough s) table s 0)) (ap (λ (x : State). x .n) (opened-is n lent [] [] s e .0))
+    (concludes (enough s) table s 0 (opened-along table n lent s complete e) (measure-enough s))

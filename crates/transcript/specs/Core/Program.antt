@@ -1,0 +1,78 @@
+-- How the program ends, for every input: with the refusal of a file that is no complete table, and nothing before it (`program-refuses`);
+-- or, for a complete table, in the L lines and the END line of a list that is decided and shortest for it, or in `E 12 0` behind the
+-- Q line of a reply for which there is no place (`program-ends`). It writes at most 163,840 bytes (`output-size`).
+use mathlib.Core.Path.{_≡_, refl, subst, sym}
+use mathlib.Core.Bool.{false, not, _||_}
+use mathlib.Core.Logic.{_⊎_}
+use mathlib.Core.List.{List, []}
+use Prim.Native.Nat.{ℕ, _<_, _≤_}
+use native.Mathlib.Omega.{arith}
+use lib.ListN.{length}
+use lib.Dec.{eqb, ltb}
+use borrow.Author.Tests.{ne-eqb, le-ltb}
+use Rattle.attribute_set.specs.Sets.{inside, full}
+use Rattle.attribute_set.specs.Sets.Laws.{sub-inside, none-sub}
+use Rattle.implication.specs.Closure.{close, closure}
+use Rattle.context.specs.Places.{lowest, anywhere}
+use Rattle.machine.specs.Checks.{Lent, State, mostAttributes, badLength, outsideM, sessionChecks}
+use Rattle.machine.specs.Checks.Laws.{Passed, none-failing}
+use Rattle.machine.specs.Machine.{Opening, opening, opened, rejected, openingState}
+use Rattle.burmeister.specs.Layout as layout
+use Rattle.burmeister.specs.Names.{completeOf}
+use Rattle.burmeister.specs.Names.Complete.{complete-table, complete-layout, table-attributes}
+use Rattle.burmeister.specs.declared.Layout.{Layout}
+use Rattle.burmeister.specs.declared.Refusal.{Refusal}
+use Rattle.burmeister.specs.declared.Opened.{Opened}
+use Rattle.burmeister.specs.declared.Opened.the-variants.{Table, Refused}
+use Rattle.transcript.specs.Text.{refusalLine}
+use Rattle.transcript.specs.Output.{enough, tableOf, interviewed, written, outputWith, places, output}
+use Rattle.transcript.specs.Core.Kept.{opened-along}
+use Rattle.transcript.specs.Core.Conclusion.{Concluded, Full, conclusion}
+use Rattle.transcript.specs.Core.Size.{refusal-length, size}
+
+pub program-refuses : (lent : Lent) (file : List ℕ) (r : Refusal) → completeOf file (layout.opening file) ≡ Refused r
+    → outputWith lent file ≡ refusalLine (record { number = r .number; place = r .place })
+unfolding outputWith
+program-refuses lent file r e = rw (outputWith, e)
+
+-- where these places are lent and accepted
+pub table-ends : (lent : Lent) (file : List ℕ) (l : Layout) (s : State) → completeOf file (layout.opening file) ≡ Table l → opening (l .attributes) lent [] [] ≡ opened s
+    → Concluded (l .attributes) (tableOf file l) (outputWith lent file) ⊎ Full (l .attributes) (outputWith lent file)
+unfolding outputWith
+table-ends lent file l s e o =
+    subst (λ x. Concluded (l .attributes) (tableOf file l) (written lent file x) ⊎ Full (l .attributes) (written lent file x)) (sym e)
+    (subst (λ x. Concluded (l .attributes) (tableOf file l) (interviewed (tableOf file l) x) ⊎ Full (l .attributes) (interviewed (tableOf file l) x)) (sym o)
+    (conclusion (tableOf file l) (l .attributes) lent s (complete-table file l e) o))
+
+-- the program's places are accepted for every number of attributes that a file can have
+pub places-open : (n : ℕ) → 0 < n → n ≤ 64 → opening n places [] [] ≡ opened (openingState n places [] [])
+unfolding opening sessionChecks badLength outsideM anywhere lowest closure close
+places-open n l u =
+    let passes : Passed (sessionChecks (openingState n places [] []) []) = (attributes, (refl, (refl, (inside-m, (refl, (refl, (refl, tt))))))) in
+    rw (opening, none-failing _ passes)
+  where
+    attributes : (eqb n 0 || ltb mostAttributes n) ≡ false
+    attributes = rw (ne-eqb n 0 (λ e. omega arith), le-ltb mostAttributes n u)
+
+    inside-m : not (inside 0 (full n)) ≡ false
+    inside-m = rw (sub-inside (none-sub (full n)))
+
+pub program-ends : (file : List ℕ) (l : Layout) → completeOf file (layout.opening file) ≡ Table l
+    → Concluded (l .attributes) (tableOf file l) (output file) ⊎ Full (l .attributes) (output file)
+program-ends file l e =
+    let t = table-attributes file l (complete-layout file l e) in
+    table-ends places file l _ e (places-open (l .attributes) (t .0) (t .1))
+
+-- only a reply writes a line before the end
+pub output-size : (lent : Lent) (file : List ℕ) → length (outputWith lent file) ≤ 163840
+unfolding outputWith
+output-size lent file = go (completeOf file (layout.opening file)) refl
+  where
+    held : (l : Layout) → completeOf file (layout.opening file) ≡ Table l → (o : Opening) → opening (l .attributes) lent [] [] ≡ o
+        → length (interviewed (tableOf file l) o) ≤ 163840
+    held l e (opened s) f = size (enough s) (tableOf file l) s 0 (opened-along (tableOf file l) (l .attributes) lent s (complete-table file l e) f)
+    held l e (rejected r) f = omega (arith, refusal-length r)
+
+    go : (x : Opened) → completeOf file (layout.opening file) ≡ x → length (written lent file x) ≤ 163840
+    go (Table l) e = held l e (opening (l .attributes) lent [] []) refl
+    go (Refused r) e = omega (arith, refusal-length (record { number = r .number; place = r .place }))

@@ -1,0 +1,186 @@
+-- However long the interview, its output is short (`size`): before the end only a reply writes a line, and there are at most
+-- 512 + 256 accepted ones and one refused.
+use mathlib.Core.Path.{_≡_, refl, sym, ap, subst, _∙_}
+use mathlib.Core.Bool.{Bool, true, false, not}
+use mathlib.Core.List.{List, [], _∷_, _++_}
+use Prim.Native.Nat.{ℕ, zero, suc, _+_, _*_, _-_, _/_, _%_, _≤_, _<_}
+use native.Mathlib.Omega.{arith}
+use lib.ListN.{length, getD, length-append}
+use lib.Dec.{eqb, ltb, leb}
+use borrow.Author.Tests.{ltb-false, leb-false}
+use Rattle.theory.specs.Implications.{Implication}
+use Rattle.attribute_set.specs.Sets.{full}
+use Rattle.implication.specs.Next.{next}
+use Rattle.context.specs.Objects.{Object, object, firstRefuting}
+use Rattle.machine.specs.Checks.{State, Refusal, badLength, mostAttributes, mostObjects, mostImplications, force, reachOf, question}
+use Rattle.machine.specs.Checks.Laws.{or-false}
+use Rattle.machine.specs.Machine.{moveTo, afterYes, afterNo}
+use Rattle.transcript.specs.Text.{digits, numberText, setText, ruleText, yesLine, noLine, listLines, endLine, refusalLine}
+use Rattle.transcript.specs.Output.{Beat, more, last, beat, beats}
+use Rattle.transcript.specs.Core.{counted, full-up, coreNo, coreYes, coreReply, coreBeat}
+use Rattle.transcript.specs.Core.Along.{Along}
+use Rattle.transcript.specs.Core.Beats.{core-beat}
+use Rattle.transcript.specs.Core.Kept.{core-along}
+
+-- ---- the parts of a line
+
+digits-length : (k n : ℕ) → length (digits k n) ≤ k
+unfolding digits
+digits-length zero n = omega arith
+digits-length (suc k) n = go (ltb n 10) (digits-length k (n / 10))
+  where
+    go : (t : Bool) → length (digits k (n / 10)) ≤ k
+        → length {A = ℕ} (elim t [ true ↦ (48 + n) ∷ [] | false ↦ digits k (n / 10) ++ ((48 + n % 10) ∷ []) ]) ≤ suc k
+    go true h = omega arith
+    go false h = rw length-append (omega arith)
+
+set-length : (n w : ℕ) → length (setText n w) ≡ n
+unfolding setText
+set-length zero w = refl
+set-length (suc n) w = ap suc (set-length n (w / 2))
+
+rule-length : (n : ℕ) (r : Implication ℕ) → length (ruleText n r) ≡ n + suc n
+rule-length n r =
+    length-append (setText n (r .premise)) _ ∙ rw (set-length n (r .premise), set-length n (r .conclusion))
+
+-- ---- the lines
+
+module _ (n : ℕ) (few : n ≤ 64) where
+  yes-length : (q : Implication ℕ) → length (yesLine n q) ≤ 160
+  yes-length q = rw (length-append (ruleText n q), rule-length n q) (omega arith)
+
+  no-length : (q : Implication ℕ) (row : ℕ) → length (noLine n q row) ≤ 160
+  no-length q row =
+      rw (length-append (ruleText n q), rule-length n q, length-append (numberText row)) (omega (arith, digits-length 20 row))
+
+  list-length : (rs : List (Implication ℕ)) → length (listLines n rs) ≤ length rs * 140
+  unfolding listLines
+  list-length [] = omega arith
+  list-length (r ∷ rs) =
+      rw (length-append (ruleText n r), rule-length n r) (omega (arith, list-length rs))
+
+end-length : (rules rows changes : ℕ) → length (endLine rules rows changes) ≤ 80
+end-length rules rows changes =
+    rw (length-append (numberText rules), length-append (numberText rows), length-append (numberText changes))
+    (omega (arith, digits-length 20 rules, digits-length 20 rows, digits-length 20 changes))
+
+pub refusal-length : (r : Refusal) → length (refusalLine r) ≤ 50
+refusal-length r =
+    rw (length-append (numberText (r .number)), length-append (numberText (r .place)))
+    (omega (arith, digits-length 20 (r .number), digits-length 20 (r .place)))
+
+-- ---- a beat
+
+-- the places that are free
+abbrev free : State → ℕ
+free s = (s .lent .rows / 2 - length (s .rows)) + (s .lent .list / 2 - length (s .list))
+
+-- a beat that goes on takes up a place for the line it writes; the last writes the list and the totals, or one line and its refusal
+abbrev Paid : State → Beat → Type 0
+Paid s (more line s′ c) = length line + free s′ * 160 ≤ free s * 160
+Paid s (last line) = length line ≤ 36000
+
+-- a lent length that is not refused
+few-words : (most words : ℕ) → badLength most words ≡ false → words / 2 ≤ most
+unfolding badLength
+few-words most words e =
+    let h : words ≤ most * 2 = ltb-false _ _ (or-false (not (eqb (words % 2) 0)) (ltb (most * 2) words) e .1) in
+    omega arith
+
+module _ (table : List Object) (s : State) (changes : ℕ) (h : Along table s changes) where
+  few-attributes : s .n ≤ 64
+  few-attributes = ltb-false _ _ (or-false (eqb (s .n) 0) (ltb mostAttributes (s .n)) (h .attributes) .1)
+
+  few-places : (s .lent .rows / 2 ≤ 512) × (s .lent .list / 2 ≤ 256)
+  few-places =
+      let x = or-false (badLength mostObjects (s .lent .rows)) _ (h .lengths) in
+      let y = or-false (badLength mostImplications (s .lent .list)) _ (x .1) in
+      (few-words mostObjects (s .lent .rows) (x .0), few-words mostImplications (s .lent .list) (y .0))
+
+  no-paid : (q : Implication ℕ) (row : ℕ) (o : Object) → Paid s (coreNo s changes q row o)
+  unfolding coreNo
+  no-paid q row o = go (leb (s .lent .rows / 2) (length (s .rows))) refl
+    where
+      go : (b : Bool) → leb (s .lent .rows / 2) (length (s .rows)) ≡ b
+          → Paid s (elim b [
+            | true ↦ last (noLine (s .n) q (row + 1) ++ refusalLine full-up)
+            | false ↦ more (noLine (s .n) q (row + 1)) (afterNo s o) changes
+          ])
+      go true e =
+          rw (length-append (noLine (s .n) q (row + 1)))
+          (omega (arith, no-length (s .n) few-attributes q (row + 1), refusal-length full-up))
+      go false e =
+          let l : length (s .rows) < s .lent .rows / 2 = leb-false _ _ e in
+          omega (arith, no-length (s .n) few-attributes q (row + 1), length-append (s .rows) (o ∷ []))
+
+  yes-paid : (q : Implication ℕ) → Paid s (coreYes s changes q)
+  unfolding coreYes
+  yes-paid q = go (leb (s .lent .list / 2) (length (s .list))) refl
+    where
+      go : (b : Bool) → leb (s .lent .list / 2) (length (s .list)) ≡ b
+          → Paid s (elim b [
+            | true ↦ last (yesLine (s .n) q ++ refusalLine full-up)
+            | false ↦ more (yesLine (s .n) q) (afterYes s) (counted changes)
+          ])
+      go true e =
+          rw (length-append (yesLine (s .n) q))
+          (omega (arith, yes-length (s .n) few-attributes q, refusal-length full-up))
+      go false e =
+          let l : length (s .list) < s .lent .list / 2 = leb-false _ _ e in
+          omega (arith, yes-length (s .n) few-attributes q, length-append (s .list) (question s ∷ []))
+
+  reply-paid : (q : Implication ℕ) → Paid s (coreReply table s changes q)
+  unfolding coreReply
+  reply-paid q = go (ltb (firstRefuting [] table q) (length table))
+    where
+      go : (b : Bool)
+          → Paid s (elim b [
+            | true ↦ coreNo s changes q (firstRefuting [] table q) (getD table (firstRefuting [] table q) (object 0 0))
+            | false ↦ coreYes s changes q
+          ])
+      go true = no-paid q _ _
+      go false = yes-paid q
+
+  beat-paid : Paid s (coreBeat table s changes)
+  unfolding coreBeat
+  beat-paid = go (eqb (s .current) (full (s .n))) (eqb (reachOf s) (s .current))
+    where
+      go : (b d : Bool)
+          → Paid s (elim b [
+            | true ↦ last (listLines (s .n) (s .list) ++ endLine (length (s .list)) (length (s .rows)) changes)
+            | false ↦ elim d [
+              | true ↦ more [] (moveTo s (next (force s) (s .n) (s .current))) (counted changes)
+              | false ↦ coreReply table s changes (question s)
+            ]
+          ])
+      go true d =
+          rw (length-append (listLines (s .n) (s .list)))
+          (omega (
+            arith,
+            list-length (s .n) few-attributes (s .list),
+            end-length (length (s .list)) (length (s .rows)) changes,
+            few-places,
+            h .list-places,
+          ))
+      go false true = omega arith
+      go false false = reply-paid (question s)
+
+-- ---- the output
+
+beats-paid : (k : ℕ) (table : List Object) (s : State) (changes : ℕ) → Along table s changes
+    → length (beats k table s changes) ≤ free s * 160 + 36000
+unfolding beats
+beats-paid zero table s changes h = omega arith
+beats-paid (suc k) table s changes h =
+    let e = core-beat table s changes h in
+    go (beat table s changes) (sym e) (subst (Paid s) (sym e) (beat-paid table s changes h)) (beats-paid k table)
+  where
+    go : (b : Beat) → coreBeat table s changes ≡ b → Paid s b
+        → ((s′ : State) (c′ : ℕ) → Along table s′ c′ → length (beats k table s′ c′) ≤ free s′ * 160 + 36000)
+        → length {A = ℕ} (elim b [ more line s′ c′ ↦ line ++ beats k table s′ c′ | last line ↦ line ]) ≤ free s * 160 + 36000
+    go (more line s′ c′) e p ih =
+        rw (length-append line) (omega (arith, p, ih s′ c′ (core-along table s changes h line s′ c′ e)))
+    go (last line) e p ih = omega (arith, p)
+
+pub size : (k : ℕ) (table : List Object) (s : State) (changes : ℕ) → Along table s changes → length (beats k table s changes) ≤ 163840
+size k table s changes h = omega (arith, beats-paid k table s changes h, few-places table s changes h)

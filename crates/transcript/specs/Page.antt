@@ -1,0 +1,24 @@
+-- Text written into a lent buffer from an offset on: what a writing function leaves. A byte past the buffer's end is dropped, so
+-- that writing is total; `Laws` proves that a text that fits stands there whole, behind what was there before.
+use mathlib.Core.Bool.{true, false}
+use mathlib.Core.List.{List, [], _∷_}
+use Prim.Native.Nat.{ℕ, _+_}
+use lib.ListN.{length, set}
+use lib.Dec.{ltb}
+pub mod Laws
+
+-- a buffer, and the offset where the next byte goes
+pub record Page : Type 0 where
+  pub bytes : List ℕ
+  pub at : ℕ
+
+abbrev pub page : List ℕ → ℕ → Page
+page bytes at = record { bytes = bytes; at = at }
+
+unfoldable pub put : Page → ℕ → Page
+put p b = elim (ltb (p .at) (length (p .bytes))) [ true ↦ page (set (p .bytes) (p .at) b) (p .at + 1) | false ↦ p ]
+
+-- a text, byte by byte
+unfoldable pub text : Page → List ℕ → Page
+text p [] = p
+text p (b ∷ bs) = text (put p b) bs

@@ -1,0 +1,92 @@
+//! The program of document 01 ("The program"), written from the document alone: the oracle of the comparison, and what the
+//! benchmark measures against.
+mod sets;
+mod table;
+
+use std::io::{self, Read, Write};
+
+use sets::Pair;
+use table::Refusal;
+
+const ROW_PLACES: usize = 512;
+const RULE_PLACES: usize = 256;
+
+fn show(out: &mut Vec<u8>, n: usize, set: u64) {
+    out.extend((0..n).map(|i| if set >> i & 1 == 1 { b'X' } else { b'.' }));
+}
+
+fn show_rule(out: &mut Vec<u8>, n: usize, rule: Pair) {
+    show(out, n, rule.0);
+    out.push(b' ');
+    show(out, n, rule.1);
+}
+
+fn interview(n: usize, table: &[Pair], mut line: impl FnMut(&[u8])) -> Result<(), Refusal> {
+    let mut text = Vec::new();
+    let mut rows: Vec<Pair> = Vec::new();
+    let mut rules: Vec<Pair> = Vec::new();
+    let mut set = 0;
+    let mut changes = 0u64;
+    while set != sets::all(n) {
+        let reach = sets::reach(&rows, n, set);
+        if reach == set {
+            set = sets::next(&rules, n, set).expect("a set before the last has a next one");
+            changes += 1;
+            continue;
+        }
+        let question = (set, reach & !set);
+        text.clear();
+        text.extend(b"Q ");
+        show_rule(&mut text, n, question);
+        let refuting = table.iter().position(|&row| sets::refutes(row, question));
+        match refuting {
+            Some(place) => writeln!(text, " no {}", place + 1),
+            None => writeln!(text, " yes"),
+        }
+        .expect("a vector takes every byte");
+        line(&text);
+        let full = match refuting {
+            Some(_) => rows.len() == ROW_PLACES,
+            None => rules.len() == RULE_PLACES,
+        };
+        if full {
+            return Err(Refusal { number: 12, place: 0 });
+        }
+        match refuting {
+            Some(place) => rows.push(table[place]),
+            None => {
+                rules.push(question);
+                set = sets::next(&rules, n, set).expect("a set before the last has a next one");
+                changes += 1;
+            }
+        }
+    }
+    for &rule in &rules {
+        text.clear();
+        text.extend(b"L ");
+        show_rule(&mut text, n, rule);
+        text.push(b'\n');
+        line(&text);
+    }
+    line(format!("END {} {} {}\n", rules.len(), rows.len(), changes).as_bytes());
+    Ok(())
+}
+
+fn run(file: &[u8], mut line: impl FnMut(&[u8])) -> Result<(), Refusal> {
+    let table = table::read(file)?;
+    if let Some(refusal) = table.unknown() {
+        return Err(refusal);
+    }
+    interview(table.properties, &table.rows(), &mut line)
+}
+
+fn main() {
+    let mut file = Vec::new();
+    // One byte more than a table may have tells that a file is too long.
+    io::stdin().take(table::MAX_BYTES as u64 + 1).read_to_end(&mut file).expect("standard input");
+    let mut out = io::stdout().lock();
+    let mut line = |text: &[u8]| out.write_all(text).expect("standard output");
+    if let Err(refusal) = run(&file, &mut line) {
+        line(format!("E {} {}\n", refusal.number, refusal.place).as_bytes());
+    }
+}
