@@ -1,5 +1,7 @@
 //! The program of document 01 ("The program"), written from the document alone: the oracle of the comparison, and what the
 //! benchmark measures against.
+//!
+//!     explore [ROW-PLACES RULE-PLACES] < TABLE
 mod sets;
 mod table;
 
@@ -8,8 +10,12 @@ use std::io::{self, Read, Write};
 use sets::Pair;
 use table::Refusal;
 
-const ROW_PLACES: usize = 512;
-const RULE_PLACES: usize = 256;
+/// Places lent for rows and rules.
+#[derive(Clone, Copy)]
+struct Places {
+    rows: usize,
+    rules: usize,
+}
 
 fn show(out: &mut Vec<u8>, n: usize, set: u64) {
     out.extend((0..n).map(|i| if set >> i & 1 == 1 { b'X' } else { b'.' }));
@@ -21,7 +27,7 @@ fn show_rule(out: &mut Vec<u8>, n: usize, rule: Pair) {
     show(out, n, rule.1);
 }
 
-fn interview(n: usize, table: &[Pair], mut line: impl FnMut(&[u8])) -> Result<(), Refusal> {
+fn interview(n: usize, table: &[Pair], places: Places, mut line: impl FnMut(&[u8])) -> Result<(), Refusal> {
     let mut text = Vec::new();
     let mut rows: Vec<Pair> = Vec::new();
     let mut rules: Vec<Pair> = Vec::new();
@@ -46,8 +52,8 @@ fn interview(n: usize, table: &[Pair], mut line: impl FnMut(&[u8])) -> Result<()
         .expect("a vector takes every byte");
         line(&text);
         let full = match refuting {
-            Some(_) => rows.len() == ROW_PLACES,
-            None => rules.len() == RULE_PLACES,
+            Some(_) => rows.len() == places.rows,
+            None => rules.len() == places.rules,
         };
         if full {
             return Err(Refusal { number: 12, place: 0 });
@@ -72,21 +78,27 @@ fn interview(n: usize, table: &[Pair], mut line: impl FnMut(&[u8])) -> Result<()
     Ok(())
 }
 
-fn run(file: &[u8], mut line: impl FnMut(&[u8])) -> Result<(), Refusal> {
+fn run(file: &[u8], places: Places, mut line: impl FnMut(&[u8])) -> Result<(), Refusal> {
     let table = table::read(file)?;
     if let Some(refusal) = table.unknown() {
         return Err(refusal);
     }
-    interview(table.properties, &table.rows(), &mut line)
+    interview(table.properties, &table.rows(), places, &mut line)
 }
 
 fn main() {
+    // The program's places, or those given as two numbers.
+    let given: Vec<usize> = std::env::args().skip(1).map(|word| word.parse().expect("a number of places")).collect();
+    let places = match given[..] {
+        [rows, rules] => Places { rows, rules },
+        _ => Places { rows: 512, rules: 256 },
+    };
     let mut file = Vec::new();
     // One byte more than a table may have tells that a file is too long.
     io::stdin().take(table::MAX_BYTES as u64 + 1).read_to_end(&mut file).expect("standard input");
     let mut out = io::stdout().lock();
     let mut line = |text: &[u8]| out.write_all(text).expect("standard output");
-    if let Err(refusal) = run(&file, &mut line) {
+    if let Err(refusal) = run(&file, places, &mut line) {
         line(format!("E {} {}\n", refusal.number, refusal.place).as_bytes());
     }
 }

@@ -1,0 +1,49 @@
+// Holds the interview of every table file that its arguments name, and writes its name and the output: once with the program's
+// places, 512 for rows and 256 for rules, and once with 2 for rows and 1 for rules.
+use libc::STDOUT_FILENO;
+
+fn hold(file: &[u8]) {
+    let mut rows = [0u64; 1024];
+    let mut list = [0u64; 512];
+    let mut out = [0u8; 163840];
+    interview::hold(file, &mut rows, &mut list, &mut out, STDOUT_FILENO);
+}
+
+fn hold_few(file: &[u8]) {
+    let mut rows = [0u64; 4];
+    let mut list = [0u64; 2];
+    let mut out = [0u8; 163840];
+    interview::hold(file, &mut rows, &mut list, &mut out, STDOUT_FILENO);
+}
+
+fn hold_path(path: &[u8]) {
+    let fd = os::open_read(path);
+    if fd < 0 {
+        os::fail(path);
+        return;
+    }
+    let mut file = [0u8; 65536];
+    let size = io::read_full(fd, &mut file);
+    libc::close(fd);
+    io::write_all(STDOUT_FILENO, path);
+    io::write_all(STDOUT_FILENO, b"\n");
+    hold(&file[..size]);
+    io::write_all(STDOUT_FILENO, path);
+    io::write_all(STDOUT_FILENO, b", 2 places for rows and 1 for rules\n");
+    hold_few(&file[..size]);
+}
+
+fn hold_arg(number: usize) {
+    let mut path = io::buffer();
+    let length = os::arg(number, &mut path);
+    hold_path(&path[..length]);
+}
+
+fn main() {
+    let count = os::arg_count();
+    let mut i = 1;
+    while i < count {
+        hold_arg(i);
+        i += 1;
+    }
+}
