@@ -3,9 +3,11 @@ use mathlib.Core.Bool.{Bool, true, false, not, _&&_}
 use mathlib.Core.List.{List, []}
 use Prim.Native.Nat.{ℕ, zero, suc}
 use lib.Dec.{eqb, ltb}
-use Rattle.burmeister.specs.Lines.{bytesAt, after}
+use lib.ListN.{drop}
+use Rattle.burmeister.specs.Lines.{lineOf, bytesAt, after}
 use Rattle.burmeister.specs.Layout.{isUnknown, everywhere, refusal, opening}
 use Rattle.burmeister.specs.declared.Layout.{Layout}
+use Rattle.burmeister.specs.declared.Span.{Span}
 use Rattle.burmeister.specs.declared.Opened.{Opened}
 use Rattle.burmeister.specs.declared.Opened.the-variants.{Table, Refused}
 pub mod Laws
@@ -30,6 +32,24 @@ finds file l = foundIn (opening file) l
 unfoldable pub skipped : ℕ → List ℕ → ℕ → ℕ
 skipped zero file at = at
 skipped (suc k) file at = skipped k file (after file at)
+
+abbrev pub span : ℕ → ℕ → Span
+span at size = record { at = at; size = size }
+
+-- where the name with this number of count names stands; nowhere, with no bytes, for a number past the last and for a layout that
+-- reading the file does not find
+abbrev pub spanFrom : Bool → ℕ → ℕ → ℕ → List ℕ → Span
+spanFrom found count start k file =
+    elim (found && ltb k count) [
+      | true ↦ span (skipped k file start) (lineOf (drop (skipped k file start) file) .size)
+      | false ↦ span 0 0
+    ]
+
+abbrev pub objectSpan : List ℕ → Layout → ℕ → Span
+objectSpan file l k = spanFrom (finds file l) (l .objects) (l .«object_names») k file
+
+abbrev pub attributeSpan : List ℕ → Layout → ℕ → Span
+attributeSpan file l k = spanFrom (finds file l) (l .attributes) (l .«attribute_names») k file
 
 -- the name with this number of count names from an offset on; no bytes, which no name has, for a number past the last and for a
 -- layout that reading the file does not find (01: 3)

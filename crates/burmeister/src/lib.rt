@@ -6,7 +6,7 @@ ghost use Prim.Native.Nat.{_+_, _*_, _≤_, _<_};
 ghost use lib.ListN.{length, getD, take, drop, replicate};
 ghost use lib.Dec.{eqb};
 ghost use Rattle.burmeister.specs.Lines.{carriageReturn, feeds, lineOf, bytesAt, after};
-ghost use Rattle.burmeister.specs.Names.{sameLayout, finds, skipped, nameFrom, objectName, attributeName, completeFrom, completeOf};
+ghost use Rattle.burmeister.specs.Names.{sameLayout, finds, skipped, spanFrom, nameFrom, objectSpan, attributeSpan, objectName, attributeName, completeFrom, completeOf};
 ghost use Rattle.burmeister.specs.Marks.{bitOf, wordOf, rowsFrom, flat, reading, rowWords};
 ghost use Rattle.burmeister.specs.declared.Kind.the-variants.{Marks};
 ghost use Rattle.burmeister.specs.Layout.{isDigit, isYes, isNo, isUnknown, isMark, everywhere, decimalFrom, isCount, countOf, fault, absent, header, walk, walkOn, rest, thenRest, placeOf, Passes, opening};
@@ -15,6 +15,12 @@ ghost use Rattle.burmeister.specs.Layout.{isDigit, isYes, isNo, isUnknow
 struct Line {
     pub size: usize,
     pub step: usize,
+}
+
+// A part of the file: where it begins, and how many bytes it has.
+pub struct Span {
+    pub at: usize,
+    pub size: usize,
 }
 
 // The kinds of lines; a line of marks has one byte for each attribute.
@@ -588,36 +594,35 @@ fn skip(file: &[u8], start: usize, count: usize) -> usize
     at
 }
 
-// The bytes of the line that begins at an offset.
-fn line_of(file: &[u8], at: usize) -> &[u8]
-    requires { ⌜ at ≤ length (now file) ⌝ }
-    ensures { λ r. ⌜ now r ≡ bytesAt (now (file .entry)) at ⌝ }
+// Where in the file the name with this number stands, of count names that begin at start; nowhere, with no bytes, for a number past
+// the last and for a layout that is not what reading the file finds.
+fn span_of(file: &[u8], layout: Layout, count: usize, start: usize, number: usize) -> Span
+    requires { ⌜ (finds (now file) layout ≡ true → start ≤ length (now file)) ⌝ }
+    ensures { λ r. ⌜ r ≡ spanFrom (finds (now (file .entry)) layout) count start number (now (file .entry)) ⌝ }
 {
+    if !is_found(file, layout) {
+        return Span { at: 0, size: 0 };
+    }
+    if count <= number {
+        return Span { at: 0, size: 0 };
+    }
+    let at = skip(file, start, number);
     let line = line_at(file, at);
-    let end = at + line.size;
-    &file[at..end]
+    Span {
+        at,
+        size: line.size,
+    }
 }
 
-// No bytes.
-fn nothing(file: &[u8]) -> &[u8]
-    ensures { λ r. ⌜ now r ≡ [] ⌝ }
-{
-    &file[0..0]
-}
-
-// The name with this number of count names that begin at start; no bytes for a number past the last and for a layout that is not
-// what reading the file finds.
+// The bytes there.
 fn name_of(file: &[u8], layout: Layout, count: usize, start: usize, number: usize) -> &[u8]
     requires { ⌜ (finds (now file) layout ≡ true → start ≤ length (now file)) ⌝ }
     ensures { λ r. ⌜ now r ≡ nameFrom (finds (now (file .entry)) layout) count start number (now (file .entry)) ⌝ }
 {
-    if !is_found(file, layout) {
-        return nothing(file);
-    }
-    if count <= number {
-        return nothing(file);
-    }
-    line_of(file, skip(file, start, number))
+    let span = span_of(file, layout, count, start, number);
+    let at = span.at;
+    let end = at + span.size;
+    &file[at..end]
 }
 
 // The name of an object by its number, as the file's own bytes. No name is empty: no bytes are refusal 3.
@@ -632,6 +637,26 @@ pub fn attribute_name(file: &[u8], layout: Layout, number: usize) -> &[u8]
     ensures { λ r. ⌜ now r ≡ attributeName (now (file .entry)) layout number ⌝ }
 {
     name_of(
+        file,
+        layout,
+        layout.attributes,
+        layout.attribute_names,
+        number,
+    )
+}
+
+// Where the name of an object stands in the file: its offset and how many bytes it has, none where there is no such name.
+pub fn object_span(file: &[u8], layout: Layout, number: usize) -> Span
+    ensures { λ r. ⌜ r ≡ objectSpan (now (file .entry)) layout number ⌝ }
+{
+    span_of(file, layout, layout.objects, layout.object_names, number)
+}
+
+// Where the name of an attribute stands, as for objects.
+pub fn attribute_span(file: &[u8], layout: Layout, number: usize) -> Span
+    ensures { λ r. ⌜ r ≡ attributeSpan (now (file .entry)) layout number ⌝ }
+{
+    span_of(
         file,
         layout,
         layout.attributes,

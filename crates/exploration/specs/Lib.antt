@@ -1,4 +1,2 @@
 pub mod Session
 pub mod Contradiction
-pub mod Replay
-pub mod Interview

@@ -1,6 +1,7 @@
 -- One beat of the interview below the checks: it costs one reach and one next set. Of all refusals only the last is left, a full
 -- list or full rows (01: 12). `Beats` proves that an interview of a complete table, which passes every other check, has these beats,
--- `Kept` that it stays one, `Conclusion` how it ends, and `Size` how much it writes.
+-- `Kept` that it stays one, `Conclusion` how it ends, `Rows` that rows do not run out where there are places for all of the table,
+-- and `Size` how much it writes.
 use mathlib.Core.Bool.{true, false}
 use mathlib.Core.List.{List, [], _++_}
 use Prim.Native.Nat.{ℕ, suc, _+_, _/_, min}
@@ -18,6 +19,7 @@ pub mod Along
 pub mod Beats
 pub mod Kept
 pub mod Conclusion
+pub mod Rows
 pub mod Size
 pub mod Program
 

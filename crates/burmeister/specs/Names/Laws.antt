@@ -1,25 +1,27 @@
 -- Reading finds a layout just where the file opens as a table with that layout (`finds-table`), and that layout lies inside the
 -- file (`starts-inside`). No name is empty, and none has more than 80 bytes (`object-name-some`, `attribute-name-some`): no bytes
--- mean refusal 3.
+-- mean refusal 3. A name is the part of the file where it stands (`span-name`).
 use mathlib.Core.Path.{_≡_, sym, refl}
 use mathlib.Core.Bool.{Bool, true, false, not, _&&_, false≢true, and-false, and-eq-true-iff}
 use mathlib.Core.Logic.{_↔_}
 use mathlib.Core.List.{List, []}
-use Prim.Native.Nat.{ℕ, zero, suc, _≤_, _<_}
+use Prim.Native.Nat.{ℕ, zero, suc, _+_, _≤_, _<_}
 use native.Mathlib.Omega.{arith}
-use lib.ListN.{length, replicate}
+use lib.ListN.{length, take, drop, replicate}
 use lib.Dec.{eqb, ltb, leb}
 use borrow.Author.Tests.{ltb-true, leb-true, eqb-true, lt-ltb, le-ltb, eq-eqb}
 use Rattle.burmeister.specs.declared.Kind.{Kind}
 use Rattle.burmeister.specs.declared.Kind.the-variants.{Name}
 use Rattle.burmeister.specs.declared.Layout.{Layout}
+use Rattle.burmeister.specs.declared.Span.{Span}
 use Rattle.burmeister.specs.declared.Opened.{Opened}
 use Rattle.burmeister.specs.declared.Opened.the-variants.{Table, Refused}
-use Rattle.burmeister.specs.Lines.{bytesAt, after}
+use Rattle.burmeister.specs.Lines.{lineOf, bytesAt, after}
+use Rattle.burmeister.specs.Lines.Laws.{bytes-inside, after-inside}
 use Rattle.burmeister.specs.Layout.{isUnknown, everywhere, refuseUnless, fault, lineFault, refusal, walk, header, toAttributeNames, toMarks, objectCount, attributeCount, Passes, layoutOf, opening}
 use Rattle.burmeister.specs.Layout.Passed.{opened-table, passes-append, passes-cons}
 use Rattle.burmeister.specs.Layout.Laws.{place-inside}
-use Rattle.burmeister.specs.Names.{sameLayout, foundIn, finds, skipped, nameFrom, objectName, attributeName, completeFrom}
+use Rattle.burmeister.specs.Names.{sameLayout, foundIn, finds, skipped, span, spanFrom, nameFrom, objectName, attributeName, completeFrom}
 
 -- ---- what reading finds
 
@@ -59,6 +61,11 @@ module _ (file : List ℕ) (l : Layout) where
 
 -- ---- a name by its number
 
+skipped-inside : (k : ℕ) (file : List ℕ) (at : ℕ) → at ≤ length file → skipped k file at ≤ length file
+unfolding skipped
+skipped-inside zero file at h = h
+skipped-inside (suc k) file at h = skipped-inside k file (after file at) (after-inside file at h)
+
 module _ (found : Bool) (count start k : ℕ) (file : List ℕ) where
   pub name-unfound : found ≡ false → nameFrom found count start k file ≡ []
   name-unfound e = rw e
@@ -68,6 +75,43 @@ module _ (found : Bool) (count start k : ℕ) (file : List ℕ) where
 
   pub name-there : found ≡ true → k < count → nameFrom found count start k file ≡ bytesAt file (skipped k file start)
   name-there e h = rw (nameFrom, e, lt-ltb k count h)
+
+  -- where it stands
+  pub span-unfound : found ≡ false → spanFrom found count start k file ≡ span 0 0
+  span-unfound e = rw e
+
+  pub span-past : count ≤ k → spanFrom found count start k file ≡ span 0 0
+  span-past h = rw (spanFrom, le-ltb k count h, and-false found)
+
+  pub span-there : found ≡ true → k < count
+      → spanFrom found count start k file ≡ span (skipped k file start) (lineOf (drop (skipped k file start) file) .size)
+  span-there e h = rw (spanFrom, e, lt-ltb k count h)
+
+  -- the bytes there are the name
+  pub span-name : take (spanFrom found count start k file .size) (drop (spanFrom found count start k file .at) file) ≡ nameFrom found count start k file
+  span-name = go (found && ltb k count)
+    where
+      go : (b : Bool)
+          → let s = elim b as (λ x. Span) [
+            | true ↦ span (skipped k file start) (lineOf (drop (skipped k file start) file) .size)
+            | false ↦ span 0 0
+          ] in
+          _≡_ {A = List ℕ} (take (s .size) (drop (s .at) file)) (elim b [ true ↦ bytesAt file (skipped k file start) | false ↦ [] ])
+      go true = refl
+      go false = refl
+
+  -- and lie inside the file
+  pub span-inside : (found ≡ true → start ≤ length file) → spanFrom found count start k file .at + spanFrom found count start k file .size ≤ length file
+  span-inside h = go (found && ltb k count) refl
+    where
+      go : (b : Bool) → (found && ltb k count) ≡ b
+          → let s = elim b as (λ x. Span) [
+            | true ↦ span (skipped k file start) (lineOf (drop (skipped k file start) file) .size)
+            | false ↦ span 0 0
+          ] in
+          s .at + s .size ≤ length file
+      go true e = bytes-inside file (skipped k file start) (skipped-inside k file start (h (and-eq-true-iff found _ .0 e .0)))
+      go false e = omega arith
 
 -- ---- no name is empty
 

@@ -7,7 +7,7 @@ use Prim.Native.Nat.{ℕ, _/_, _≤_}
 use lib.ListN.{length}
 use lib.Dec.{eqb, ltb}
 use borrow.Author.Tests.{eq-eqb, le-ltb}
-use Rattle.theory.specs.Lists.{All}
+use Rattle.theory.specs.Lists.{All, Pairwise}
 use Rattle.theory.specs.Lists.Laws.{all-nil, all-append}
 use Rattle.theory.specs.Implications.{Implication, Over}
 use Rattle.attribute_set.specs.Sets.{full}
@@ -25,14 +25,19 @@ use Rattle.machine.specs.Checks.{State, force, badLength, mostAttributes, mostO
 use Rattle.machine.specs.Checks.Laws.{InM, Passed, none-failing}
 use Rattle.machine.specs.Demand3.Invariant.{Reached, current-in}
 
+-- two different rows
+abbrev pub Differ : Object → Object → Type 0
+Differ x y = x ≡ y → ⊥
+
 -- what holds from the opening on
 pub record Along (table : List Object) (s : State) (changes : ℕ) : Type 0 where
   pub complete : Table (s .n) table
   pub attributes : (eqb (s .n) 0 || ltb mostAttributes (s .n)) ≡ false
   pub lengths : (badLength mostObjects (s .lent .rows) || (badLength mostImplications (s .lent .list) || badLength mostImplications (s .lent .background))) ≡ false
   pub background : s .background ≡ []
-  -- the rows are rows of the table, and the table agrees with the list
+  -- the rows are rows of the table, each filed once, and the table agrees with the list
   pub rows : All (λ o. List·Memᴰ o table) (s .rows)
+  pub different : Pairwise Differ (s .rows)
   pub list : All (AgreesImplication table) (s .list)
   pub row-places : length (s .rows) ≤ s .lent .rows / 2
   pub list-places : length (s .list) ≤ s .lent .list / 2

@@ -1,24 +1,27 @@
--- A beat of an interview of a complete table is the beat below the checks (`core-beat`).
+-- A beat of an interview of a complete table is the beat below the checks (`core-beat`). A row that refutes the question was not
+-- filed before (`row-new`), so that fewer rows are filed than the table has (`rows-fewer`).
 use mathlib.Core.Path.{_≡_, refl, sym, ap, _∙_, subst}
-use mathlib.Core.Bool.{Bool, true, false, not}
+use mathlib.Core.Bool.{Bool, true, false, not, false≢true}
 use mathlib.Core.List.{List, [], _∷_, _++_, List·Memᴰ, List·Memᴰ·head, List·Memᴰ·tail, append-assoc}
 use Prim.Native.Nat.{ℕ, zero, suc, _+_, _/_, _^_, _≤_, _<_}
 use native.Mathlib.Omega.{arith}
-use lib.ListN.{length, getD}
+use lib.ListN.{length, length-append, getD}
 use lib.Dec.{eqb, ltb, leb}
 use lib.Pow.{pow-mono}
 use borrow.Author.Tests.{eq-eqb, ne-eqb, ltb-true, ltb-false}
-use Rattle.theory.specs.Lists.{All}
-use Rattle.theory.specs.Lists.Laws.{all-snoc}
+use Rattle.theory.specs.Lists.{All, Pairwise}
+use Rattle.theory.specs.Lists.Laws.{all-snoc, pairwise-map, pairwise-snoc, pigeonhole}
 use Rattle.theory.specs.Implications.{Implication, Over}
 use Rattle.attribute_set.specs.Sets.{full}
+use Rattle.attribute_set.specs.Sets.Laws.{sub-refl, apart-sub, without-sub}
 use Rattle.attribute_set.specs.Lectic.Rank.{rank, rank-lt, rank-before}
 use Rattle.attribute_set.specs.Words.{words}
 use Rattle.implication.specs.Next.{next}
 use Rattle.implication.specs.Next.Laws.{next-is}
 use Rattle.context.specs.Places.Laws.{lowest-at, none-lowest, all-anywhere}
 use Rattle.context.specs.Objects.{Object, object, refutes, firstRefuting, contradicts}
-use Rattle.context.specs.Objects.Laws.{has-written, lacks-written, apart-marked}
+use Rattle.context.specs.Objects.Laws.{has-written, lacks-written, spares, apart-marked}
+use Rattle.context.specs.Reach.Laws.{reach-apart}
 use Rattle.context.specs.Tables.{AgreesImplication}
 use Rattle.context.specs.Tables.Laws.{no-contradiction}
 use Rattle.machine.specs.Checks.{State, check, force, reachOf, questionStands, question, withQuestion, mostAttributes, firstFailing, sessionChecks, yesChecks, noChecks}
@@ -29,7 +32,7 @@ use Rattle.machine.specs.Demand3.Invariant.{with-over}
 use Rattle.transcript.specs.Text.{yesLine, noLine, listLines, endLine, refusalLine}
 use Rattle.transcript.specs.Output.{Beat, more, last, replied, answered, stepped, beat}
 use Rattle.transcript.specs.Core.{counted, full-up, coreNo, coreYes, coreReply, coreBeat}
-use Rattle.transcript.specs.Core.Along.{Along, in-familiar, or-none, own-row, row-in, agrees-force, row-consistent, session-passes}
+use Rattle.transcript.specs.Core.Along.{Differ, Along, in-familiar, or-none, own-row, row-in, agrees-force, row-consistent, session-passes}
 
 -- ---- the row that refutes
 
@@ -58,6 +61,29 @@ module _ (table : List Object) (q : Implication ℕ) where
   pub none-refutes : ltb (firstRefuting [] table q) (length table) ≡ false → AgreesImplication table q
   unfolding firstRefuting
   none-refutes e = none-lowest _ table (ltb-false _ _ e)
+
+-- rows that differ, all of a table, are no more than the table has
+few-different : (l table : List Object) → Pairwise Differ l → All (λ o. List·Memᴰ o table) l → length l ≤ length table
+few-different l table d h =
+    pigeonhole _≡_ l table (pairwise-map l (λ x y mx my n z e f. n (e ∙ sym f)) d) (λ x m. (x, h x m, refl))
+
+-- no row that is filed refutes the question: the reach leaves out what a row lacks that has the premise
+filed-spares : (s : State) → All (λ o. refutes (force s) o (question s) ≡ false) (s .rows)
+filed-spares s o m =
+    spares (force s) o (question s)
+    (λ h. apart-sub (without-sub _ _) (sub-refl _) (reach-apart (force s) (s .n) (s .rows) (s .current) o m h))
+
+module _ (table : List Object) (s : State) (o : Object) (r : Refuting table (question s) o) where
+  pub row-new : All (λ x. Differ x o) (s .rows)
+  row-new x m e =
+      false≢true (sym (filed-spares s x m) ∙ refutes-same (force s) [] x (question s) ∙ ap (λ y. refutes [] y (question s)) e ∙ r .refutes)
+
+  -- with the new row they are still rows of the table that differ
+  pub rows-fewer : (changes : ℕ) → Along table s changes → length (s .rows) < length table
+  rows-fewer changes a =
+      let different = pairwise-snoc Differ (s .rows) o (a .different) row-new in
+      let few = few-different (s .rows ++ (o ∷ [])) table different (all-snoc (s .rows) o (a .rows) (r .member)) in
+      omega (arith, few, length-append (s .rows) (o ∷ []))
 
 -- ---- the count of changes
 

@@ -1,5 +1,6 @@
 -- Every interview of a complete table ends (`conclusion`): either in END, with a list that is decided and shortest for the
--- table, or in `E 12 0`, the refusal of a reply for which there is no place.
+-- table, or in `E 12 0`, the refusal of a reply for which there is no place. A no is refused only where the table has more rows
+-- than there are places for them (`ends`).
 use mathlib.Core.Path.{_≡_, refl, sym, ap, _∙_, subst}
 use mathlib.Core.Logic.{_⊎_, inl, inr, _↔_}
 use mathlib.Core.Bool.{Bool, true, false}
@@ -8,7 +9,7 @@ use Prim.Native.Nat.{ℕ, zero, suc, _+_, _/_, _≤_, _<_}
 use native.Mathlib.Omega.{arith}
 use lib.ListN.{length, getD}
 use lib.Dec.{ltb, leb}
-use borrow.Author.Tests.{eq-eqb}
+use borrow.Author.Tests.{eq-eqb, leb-true}
 use Rattle.theory.specs.Lists.{All}
 use Rattle.theory.specs.Implications.{Implication}
 use Rattle.attribute_set.specs.Sets.{full}
@@ -26,7 +27,7 @@ use Rattle.transcript.specs.Output.{Beat, more, last, beat, beats, enoug
 use Rattle.transcript.specs.Output.Ends.{measure, measure-enough, beat-falls}
 use Rattle.transcript.specs.Core.{counted, full-up, coreNo, coreYes, coreReply, coreBeat}
 use Rattle.transcript.specs.Core.Along.{Along, own-row, agrees-force, session-passes}
-use Rattle.transcript.specs.Core.Beats.{core-last, core-moved, core-asked, core-beat}
+use Rattle.transcript.specs.Core.Beats.{Refuting, row-refutes, rows-fewer, core-last, core-moved, core-asked, core-beat}
 use Rattle.transcript.specs.Core.Kept.{core-kept, opened-along}
 
 -- just the implications that hold in the table follow from the list
@@ -51,6 +52,15 @@ pub record Full (n : ℕ) (text : List ℕ) : Type 0 where
   pub reply : List ℕ
   pub replies : (reply ≡ yesLine n question) ⊎ ((row : ℕ) × (reply ≡ noLine n question row))
   pub whole : text ≡ before ++ (reply ++ refusalLine full-up)
+
+-- the same, and the reply is a yes, or the table has more rows than there are places lent for them
+pub record Refused (n : ℕ) (table : List Object) (lent : Lent) (text : List ℕ) : Type 0 where
+  pub refused : Full n text
+  pub short : (refused .reply ≡ yesLine n (refused .question)) ⊎ (lent .rows / 2 < length table)
+
+-- how the output ends
+abbrev pub Ends : ℕ → List Object → Lent → List ℕ → Type 0
+Ends n table lent text = Concluded n table text ⊎ Refused n table lent text
 
 -- ---- at M
 
@@ -90,13 +100,9 @@ module _ (table : List Object) (s : State) (changes : ℕ) (a : Along table s ch
 
 -- ---- the last beat
 
--- how the output ends
-abbrev Conclusion : ℕ → List Object → List ℕ → Type 0
-Conclusion n table text = Concluded n table text ⊎ Full n text
-
 -- what stands before it is part of the output
-behind : (n : ℕ) (table : List Object) (line text : List ℕ) → Conclusion n table text → Conclusion n table (line ++ text)
-behind n table line text (inl c) = inl (record {
+behind : (n : ℕ) (table : List Object) (lent : Lent) (line text : List ℕ) → Ends n table lent text → Ends n table lent (line ++ text)
+behind n table lent line text (inl c) = inl (record {
   before = line ++ c .before;
   list = c .list;
   rows = c .rows;
@@ -106,13 +112,18 @@ behind n table line text (inl c) = inl (record {
   decides = c .decides;
   shortest = c .shortest;
 })
-behind n table line text (inr f) = inr (record {
-  before = line ++ f .before;
-  question = f .question;
-  reply = f .reply;
-  replies = f .replies;
-  whole = ap (λ t. line ++ t) (f .whole) ∙ sym (append-assoc line (f .before) _);
-})
+behind n table lent line text (inr r) =
+    let f = r .refused in
+    inr (record {
+      refused = record {
+        before = line ++ f .before;
+        question = f .question;
+        reply = f .reply;
+        replies = f .replies;
+        whole = ap (λ t. line ++ t) (f .whole) ∙ sym (append-assoc line (f .before) _);
+      };
+      short = r .short;
+    })
 
 not-last : (line line′ : List ℕ) (s′ : State) (c′ : ℕ) → more line s′ c′ ≡ last line′ → ⊥
 not-last line line′ s′ c′ e = let z : _≡_ {A = ℕ} 0 1 = cc in omega arith
@@ -120,41 +131,48 @@ not-last line line′ s′ c′ e = let z : _≡_ {A = ℕ} 0 1 = cc in omega ar
 same-line : (line line′ : List ℕ) → last line ≡ last line′ → line ≡ line′
 same-line line line′ e = cc
 
-module _ (table : List Object) (s : State) (changes : ℕ) (line : List ℕ) where
-  -- a reply that ends the interview is refused for want of a place
-  no-full : (row : ℕ) (o : Object) → coreNo s changes (question s) row o ≡ last line → Full (s .n) line
+module _ (table : List Object) (s : State) (changes : ℕ) (a : Along table s changes) (line : List ℕ) where
+  -- a reply that ends the interview is refused for want of a place; the row of a no is one more than those filed
+  no-refused : (row : ℕ) (o : Object) → Refuting table (question s) o → coreNo s changes (question s) row o ≡ last line
+      → Refused (s .n) table (s .lent) line
   unfolding coreNo
-  no-full row o = go (leb (s .lent .rows / 2) (length (s .rows)))
+  no-refused row o r = go (leb (s .lent .rows / 2) (length (s .rows))) refl
     where
-      go : (b : Bool)
+      go : (b : Bool) → leb (s .lent .rows / 2) (length (s .rows)) ≡ b
           → _≡_ {A = Beat} (elim b [
             | true ↦ last (noLine (s .n) (question s) (row + 1) ++ refusalLine full-up)
             | false ↦ more (noLine (s .n) (question s) (row + 1)) (afterNo s o) changes
-          ]) (last line) → Full (s .n) line
-      go true e = record {
-        before = [];
-        question = question s;
-        reply = noLine (s .n) (question s) (row + 1);
-        replies = inr (row + 1, refl);
-        whole = sym (same-line _ _ e);
+          ]) (last line) → Refused (s .n) table (s .lent) line
+      go true f e = record {
+        refused = record {
+          before = [];
+          question = question s;
+          reply = noLine (s .n) (question s) (row + 1);
+          replies = inr (row + 1, refl);
+          whole = sym (same-line _ _ e);
+        };
+        short = inr (omega (arith, leb-true (s .lent .rows / 2) (length (s .rows)) f, rows-fewer table s o r changes a));
       }
-      go false e = absurd (not-last _ _ _ _ e)
+      go false f e = absurd (not-last _ _ _ _ e)
 
-  yes-full : coreYes s changes (question s) ≡ last line → Full (s .n) line
+  yes-refused : coreYes s changes (question s) ≡ last line → Refused (s .n) table (s .lent) line
   unfolding coreYes
-  yes-full = go (leb (s .lent .list / 2) (length (s .list)))
+  yes-refused = go (leb (s .lent .list / 2) (length (s .list)))
     where
       go : (b : Bool)
           → _≡_ {A = Beat} (elim b [
             | true ↦ last (yesLine (s .n) (question s) ++ refusalLine full-up)
             | false ↦ more (yesLine (s .n) (question s)) (afterYes s) (counted changes)
-          ]) (last line) → Full (s .n) line
-      go true e = record { before = []; question = question s; reply = yesLine (s .n) (question s); replies = inl refl; whole = sym (same-line _ _ e) }
+          ]) (last line) → Refused (s .n) table (s .lent) line
+      go true e = record {
+        refused = record { before = []; question = question s; reply = yesLine (s .n) (question s); replies = inl refl; whole = sym (same-line _ _ e) };
+        short = inl refl;
+      }
       go false e = absurd (not-last _ _ _ _ e)
 
-  reply-full : coreReply table s changes (question s) ≡ last line → Full (s .n) line
+  reply-refused : coreReply table s changes (question s) ≡ last line → Refused (s .n) table (s .lent) line
   unfolding coreReply
-  reply-full = go (ltb row (length table))
+  reply-refused = go (ltb row (length table)) refl
     where
       row : ℕ
       row = firstRefuting [] table (question s)
@@ -162,40 +180,49 @@ module _ (table : List Object) (s : State) (changes : ℕ) (line : List ℕ) whe
       o : Object
       o = getD table row (object 0 0)
 
-      go : (b : Bool)
+      go : (b : Bool) → ltb row (length table) ≡ b
           → _≡_ {A = Beat} (elim b [ true ↦ coreNo s changes (question s) row o | false ↦ coreYes s changes (question s) ]) (last line)
-          → Full (s .n) line
-      go true e = no-full row o e
-      go false e = yes-full e
+          → Refused (s .n) table (s .lent) line
+      go true f e = no-refused row o (row-refutes table (question s) f) e
+      go false f e = yes-refused e
 
-  last-concludes : Along table s changes → coreBeat table s changes ≡ last line → Conclusion (s .n) table line
-  last-concludes a k =
-      step-cases s (λ t. Conclusion (s .n) table line)
-      (λ e. subst (λ t. Conclusion (s .n) table t) (same-line _ _ (sym (core-last table s changes e) ∙ k)) (inl (concluded table s changes a e)))
+  last-ends : coreBeat table s changes ≡ last line → Ends (s .n) table (s .lent) line
+  last-ends k =
+      step-cases s (λ t. Ends (s .n) table (s .lent) line)
+      (λ e. subst (λ t. Ends (s .n) table (s .lent) t) (same-line _ _ (sym (core-last table s changes e) ∙ k)) (inl (concluded table s changes a e)))
       (λ ne e. absurd (not-last _ _ _ _ (sym (core-moved table s changes ne e) ∙ k)))
-      (λ ne d. inr (reply-full (sym (core-asked table s changes ne d) ∙ k)))
+      (λ ne d. inr (reply-refused (sym (core-asked table s changes ne d) ∙ k)))
 
 -- ---- all beats
 
 -- with more beats than there is to go, the last is among them
-concludes : (k : ℕ) (table : List Object) (s : State) (changes : ℕ) → Along table s changes → measure s < k
-    → Conclusion (s .n) table (beats k table s changes)
+ends-within : (k : ℕ) (table : List Object) (s : State) (changes : ℕ) → Along table s changes → measure s < k
+    → Ends (s .n) table (s .lent) (beats k table s changes)
 unfolding beats
-concludes zero table s changes a l = absurd (omega arith)
-concludes (suc k) table s changes a l = go (beat table s changes) refl (λ s′ c′ b m. concludes k table s′ c′ b m)
+ends-within zero table s changes a l = absurd (omega arith)
+ends-within (suc k) table s changes a l = go (beat table s changes) refl (λ s′ c′ b m. ends-within k table s′ c′ b m)
   where
     go : (b : Beat) → beat table s changes ≡ b
-        → ((s′ : State) (c′ : ℕ) → Along table s′ c′ → measure s′ < k → Conclusion (s′ .n) table (beats k table s′ c′))
-        → Conclusion (s .n) table (elim b [ more line s′ c′ ↦ line ++ beats k table s′ c′ | last line ↦ line ])
+        → ((s′ : State) (c′ : ℕ) → Along table s′ c′ → measure s′ < k → Ends (s′ .n) table (s′ .lent) (beats k table s′ c′))
+        → Ends (s .n) table (s .lent) (elim b [ more line s′ c′ ↦ line ++ beats k table s′ c′ | last line ↦ line ])
     go (more line s′ c′) e ih =
         let kept = core-kept table s changes a line s′ c′ (sym (core-beat table s changes a) ∙ e) in
         let less = beat-falls table s changes (a .reached) line s′ c′ e .less in
-        behind (s .n) table line _
-        (subst (λ n. Conclusion n table (beats k table s′ c′)) (kept .same-n) (ih s′ c′ (kept .along) (omega (arith, less))))
-    go (last line) e ih = last-concludes table s changes line a (sym (core-beat table s changes a) ∙ e)
+        behind (s .n) table (s .lent) line _
+        (subst (λ n. Ends n table (s .lent) (beats k table s′ c′)) (kept .same-n)
+        (subst (λ t. Ends (s′ .n) table t (beats k table s′ c′)) (kept .same-lent) (ih s′ c′ (kept .along) (omega (arith, less)))))
+    go (last line) e ih = last-ends table s changes a line (sym (core-beat table s changes a) ∙ e)
+
+pub ends : (table : List Object) (n : ℕ) (lent : Lent) (s : State) → Table n table → opening n lent [] [] ≡ opened s
+    → Ends n table lent (beats (enough s) table s 0)
+ends table n lent s complete e =
+    subst (λ (x : State). Ends (x .n) table (x .lent) (beats (enough s) table s 0)) (opened-is n lent [] [] s e .0)
+    (ends-within (enough s) table s 0 (opened-along table n lent s complete e) (measure-enough s))
 
 pub conclusion : (table : List Object) (n : ℕ) (lent : Lent) (s : State) → Table n table → opening n lent [] [] ≡ opened s
     → Concluded n table (beats (enough s) table s 0) ⊎ Full n (beats (enough s) table s 0)
-conclusion table n lent s complete e =
-    subst (λ k. Conclusion k table (beats (enough s) table s 0)) (ap (λ (x : State). x .n) (opened-is n lent [] [] s e .0))
-    (concludes (enough s) table s 0 (opened-along table n lent s complete e) (measure-enough s))
+conclusion table n lent s complete e = go (ends table n lent s complete e)
+  where
+    go : Ends n table lent (beats (enough s) table s 0) → Concluded n table (beats (enough s) table s 0) ⊎ Full n (beats (enough s) table s 0)
+    go (inl c) = inl c
+    go (inr r) = inr (r .refused)

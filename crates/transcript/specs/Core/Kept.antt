@@ -1,13 +1,13 @@
 -- The interview of a complete table keeps what holds along it: from its opening (`opened-along`), beat by beat (`core-along`).
 use mathlib.Core.Path.{_≡_, refl, sym, _∙_, subst}
 use mathlib.Core.Bool.{Bool, true, false}
-use mathlib.Core.List.{List, [], _∷_, _++_, List·Memᴰ}
+use mathlib.Core.List.{List, [], _∷_, _++_}
 use Prim.Native.Nat.{ℕ, _+_, _/_}
 use native.Mathlib.Omega.{arith}
 use lib.ListN.{length, length-append, getD}
 use lib.Dec.{ltb, leb}
 use borrow.Author.Tests.{leb-false}
-use Rattle.theory.specs.Lists.Laws.{all-nil, all-snoc}
+use Rattle.theory.specs.Lists.Laws.{all-nil, all-snoc, pairwise-snoc}
 use Rattle.attribute_set.specs.Sets.{full}
 use Rattle.implication.specs.Next.{next}
 use Rattle.context.specs.Objects.{Object, object, firstRefuting}
@@ -20,12 +20,13 @@ use Rattle.machine.specs.Demand3.Invariant.{Reached, with-over, moved-reached, 
 use Rattle.transcript.specs.Text.{yesLine, noLine, refusalLine}
 use Rattle.transcript.specs.Output.{Beat, more, last}
 use Rattle.transcript.specs.Core.{counted, full-up, coreNo, coreYes, coreReply, coreBeat}
-use Rattle.transcript.specs.Core.Along.{Along, row-consistent}
-use Rattle.transcript.specs.Core.Beats.{row-refutes, none-refutes, later-counts, counted-is, yes-consistent, core-last, core-moved, core-asked}
+use Rattle.transcript.specs.Core.Along.{Differ, Along, row-consistent}
+use Rattle.transcript.specs.Core.Beats.{Refuting, row-refutes, none-refutes, row-new, later-counts, counted-is, yes-consistent, core-last, core-moved, core-asked}
 
--- what a beat that goes on keeps: the number of attributes, and what holds along the interview
-pub record Kept (table : List Object) (n : ℕ) (s : State) (changes : ℕ) : Type 0 where
-  pub same-n : s .n ≡ n
+-- what a beat that goes on keeps: the number of attributes, the places lent, and what holds along the interview
+pub record Kept (table : List Object) (before : State) (s : State) (changes : ℕ) : Type 0 where
+  pub same-n : s .n ≡ before .n
+  pub same-lent : s .lent ≡ before .lent
   pub along : Along table s changes
 
 module _ (table : List Object) (s : State) (changes : ℕ) (a : Along table s changes) where
@@ -39,6 +40,7 @@ module _ (table : List Object) (s : State) (changes : ℕ) (a : Along table s ch
         lengths = a .lengths;
         background = a .background;
         rows = a .rows;
+        different = a .different;
         list = a .list;
         row-places = a .row-places;
         list-places = a .list-places;
@@ -46,18 +48,19 @@ module _ (table : List Object) (s : State) (changes : ℕ) (a : Along table s ch
         reached = moved-reached s (a .reached) ne e;
       }
 
-  no-along : (o : Object) → List·Memᴰ o table → leb (s .lent .rows / 2) (length (s .rows)) ≡ false → Along table (afterNo s o) changes
-  no-along o m f = record {
+  no-along : (o : Object) → Refuting table (question s) o → leb (s .lent .rows / 2) (length (s .rows)) ≡ false → Along table (afterNo s o) changes
+  no-along o r f = record {
     complete = a .complete;
     attributes = a .attributes;
     lengths = a .lengths;
     background = a .background;
-    rows = all-snoc (s .rows) o (a .rows) m;
+    rows = all-snoc (s .rows) o (a .rows) (r .member);
+    different = pairwise-snoc Differ (s .rows) o (a .different) (row-new table s o r);
     list = a .list;
     row-places = omega (arith, leb-false (s .lent .rows / 2) (length (s .rows)) f, length-append (s .rows) (o ∷ []));
     list-places = a .list-places;
     counts = a .counts;
-    reached = no-reached s (a .reached) o (row-consistent table s changes a o m);
+    reached = no-reached s (a .reached) o (row-consistent table s changes a o (r .member));
   }
 
   yes-along : Stands s → AgreesImplication table (question s) → leb (s .lent .list / 2) (length (s .list)) ≡ false
@@ -70,6 +73,7 @@ module _ (table : List Object) (s : State) (changes : ℕ) (a : Along table s ch
         lengths = a .lengths;
         background = a .background;
         rows = a .rows;
+        different = a .different;
         list = all-snoc (s .list) (question s) (a .list) agrees;
         row-places = a .row-places;
         list-places = omega (arith, leb-false (s .lent .list / 2) (length (s .list)) f, length-append (s .list) (question s ∷ []));
@@ -78,28 +82,29 @@ module _ (table : List Object) (s : State) (changes : ℕ) (a : Along table s ch
       }
 
   module _ (line : List ℕ) (s′ : State) (c′ : ℕ) where
-    not-more : (l : List ℕ) → last l ≡ more line s′ c′ → Kept table (s .n) s′ c′
+    not-more : (l : List ℕ) → last l ≡ more line s′ c′ → Kept table s s′ c′
     not-more l e = absurd (let z : _≡_ {A = ℕ} 0 1 = cc in omega arith)
 
-    goes-to : (x : State) (l : List ℕ) (c : ℕ) → x .n ≡ s .n → Along table x c → more l x c ≡ more line s′ c′ → Kept table (s .n) s′ c′
-    goes-to x l c k h e =
+    goes-to : (x : State) (l : List ℕ) (c : ℕ) → x .n ≡ s .n → x .lent ≡ s .lent → Along table x c
+        → more l x c ≡ more line s′ c′ → Kept table s s′ c′
+    goes-to x l c k i h e =
         let p : x ≡ s′ = cc in
         let q : c ≡ c′ = cc in
-        subst (λ y. Kept table (s .n) y c′) p (subst (λ y. Kept table (s .n) x y) q (record { same-n = k; along = h }))
+        subst (λ y. Kept table s y c′) p (subst (λ y. Kept table s x y) q (record { same-n = k; same-lent = i; along = h }))
 
-    no-kept : (row : ℕ) (o : Object) → List·Memᴰ o table → coreNo s changes (question s) row o ≡ more line s′ c′ → Kept table (s .n) s′ c′
+    no-kept : (row : ℕ) (o : Object) → Refuting table (question s) o → coreNo s changes (question s) row o ≡ more line s′ c′ → Kept table s s′ c′
     unfolding coreNo
-    no-kept row o m = go (leb (s .lent .rows / 2) (length (s .rows))) refl
+    no-kept row o r = go (leb (s .lent .rows / 2) (length (s .rows))) refl
       where
         go : (b : Bool) → leb (s .lent .rows / 2) (length (s .rows)) ≡ b
             → _≡_ {A = Beat} (elim b [
               | true ↦ last (noLine (s .n) (question s) (row + 1) ++ refusalLine full-up)
               | false ↦ more (noLine (s .n) (question s) (row + 1)) (afterNo s o) changes
-            ]) (more line s′ c′) → Kept table (s .n) s′ c′
+            ]) (more line s′ c′) → Kept table s s′ c′
         go true f e = not-more _ e
-        go false f e = goes-to (afterNo s o) _ changes refl (no-along o m f) e
+        go false f e = goes-to (afterNo s o) _ changes refl refl (no-along o r f) e
 
-    yes-kept : Stands s → AgreesImplication table (question s) → coreYes s changes (question s) ≡ more line s′ c′ → Kept table (s .n) s′ c′
+    yes-kept : Stands s → AgreesImplication table (question s) → coreYes s changes (question s) ≡ more line s′ c′ → Kept table s s′ c′
     unfolding coreYes
     yes-kept t agrees = go (leb (s .lent .list / 2) (length (s .list))) refl
       where
@@ -107,11 +112,11 @@ module _ (table : List Object) (s : State) (changes : ℕ) (a : Along table s ch
             → _≡_ {A = Beat} (elim b [
               | true ↦ last (yesLine (s .n) (question s) ++ refusalLine full-up)
               | false ↦ more (yesLine (s .n) (question s)) (afterYes s) (counted changes)
-            ]) (more line s′ c′) → Kept table (s .n) s′ c′
+            ]) (more line s′ c′) → Kept table s s′ c′
         go true f e = not-more _ e
-        go false f e = goes-to (afterYes s) _ (counted changes) refl (yes-along t agrees f) e
+        go false f e = goes-to (afterYes s) _ (counted changes) refl refl (yes-along t agrees f) e
 
-    reply-kept : Stands s → coreReply table s changes (question s) ≡ more line s′ c′ → Kept table (s .n) s′ c′
+    reply-kept : Stands s → coreReply table s changes (question s) ≡ more line s′ c′ → Kept table s s′ c′
     unfolding coreReply
     reply-kept t = go (ltb row (length table)) refl
       where
@@ -123,15 +128,15 @@ module _ (table : List Object) (s : State) (changes : ℕ) (a : Along table s ch
 
         go : (b : Bool) → ltb row (length table) ≡ b
             → _≡_ {A = Beat} (elim b [ true ↦ coreNo s changes (question s) row o | false ↦ coreYes s changes (question s) ]) (more line s′ c′)
-            → Kept table (s .n) s′ c′
-        go true f e = no-kept row o (row-refutes table (question s) f .member) e
+            → Kept table s s′ c′
+        go true f e = no-kept row o (row-refutes table (question s) f) e
         go false f e = yes-kept t (none-refutes table (question s) f) e
 
-    pub core-kept : coreBeat table s changes ≡ more line s′ c′ → Kept table (s .n) s′ c′
+    pub core-kept : coreBeat table s changes ≡ more line s′ c′ → Kept table s s′ c′
     core-kept k =
-        step-cases s (λ t. Kept table (s .n) s′ c′)
+        step-cases s (λ t. Kept table s s′ c′)
         (λ e. not-more _ (sym (core-last table s changes e) ∙ k))
-        (λ ne e. goes-to _ _ _ refl (moved-along ne e) (sym (core-moved table s changes ne e) ∙ k))
+        (λ ne e. goes-to _ _ _ refl refl (moved-along ne e) (sym (core-moved table s changes ne e) ∙ k))
         (λ ne d. reply-kept (record { below = ne; differs = d }) (sym (core-asked table s changes ne d) ∙ k))
 
 pub core-along : (table : List Object) (s : State) (changes : ℕ) → Along table s changes
@@ -149,6 +154,7 @@ opened-along table n lent s complete e =
       lengths = p .1 .0;
       background = refl;
       rows = all-nil _;
+      different = tt;
       list = all-nil _;
       row-places = omega arith;
       list-places = omega arith;

@@ -1,7 +1,9 @@
 -- How the program ends, for every input: with the refusal of a file that is no complete table, and nothing before it (`program-refuses`);
 -- or, for a complete table, in the L lines and the END line of a list that is decided and shortest for it, or in `E 12 0` behind the
--- Q line of a reply for which there is no place (`program-ends`). It writes at most 163,840 bytes (`output-size`).
-use mathlib.Core.Path.{_≡_, refl, subst, sym}
+-- Q line of a yes for which there is no place (`program-ends`). Other than the file's own, this is the only refusal: the program has
+-- places for all rows of a file. Where other places are lent, the refused reply can be a no (`table-ends`). The program writes at
+-- most 163,840 bytes (`output-size`).
+use mathlib.Core.Path.{_≡_, refl, subst, sym, ap, _∙_}
 use mathlib.Core.Bool.{false, not, _||_}
 use mathlib.Core.Logic.{_⊎_}
 use mathlib.Core.List.{List, []}
@@ -18,16 +20,18 @@ use Rattle.machine.specs.Checks.{Lent, State, mostAttributes, badLength, outsid
 use Rattle.machine.specs.Checks.Laws.{Passed, none-failing}
 use Rattle.machine.specs.Machine.{Opening, opening, opened, rejected, openingState}
 use Rattle.burmeister.specs.Layout as layout
+use Rattle.burmeister.specs.Marks.Laws.{rows-count}
 use Rattle.burmeister.specs.Names.{completeOf}
-use Rattle.burmeister.specs.Names.Complete.{complete-table, complete-layout, table-attributes}
+use Rattle.burmeister.specs.Names.Complete.{complete-table, complete-layout, table-attributes, table-objects}
 use Rattle.burmeister.specs.declared.Layout.{Layout}
 use Rattle.burmeister.specs.declared.Refusal.{Refusal}
 use Rattle.burmeister.specs.declared.Opened.{Opened}
 use Rattle.burmeister.specs.declared.Opened.the-variants.{Table, Refused}
 use Rattle.transcript.specs.Text.{refusalLine}
-use Rattle.transcript.specs.Output.{enough, tableOf, interviewed, written, outputWith, places, output}
+use Rattle.transcript.specs.Output.{beats, enough, tableOf, interviewed, written, outputWith, places, output}
 use Rattle.transcript.specs.Core.Kept.{opened-along}
 use Rattle.transcript.specs.Core.Conclusion.{Concluded, Full, conclusion}
+use Rattle.transcript.specs.Core.Rows.{ListFull, rows-suffice}
 use Rattle.transcript.specs.Core.Size.{refusal-length, size}
 
 pub program-refuses : (lent : Lent) (file : List ℕ) (r : Refusal) → completeOf file (layout.opening file) ≡ Refused r
@@ -35,14 +39,17 @@ pub program-refuses : (lent : Lent) (file : List ℕ) (r : Refusal) → complete
 unfolding outputWith
 program-refuses lent file r e = rw (outputWith, e)
 
--- where these places are lent and accepted
+-- where these places are lent and accepted, the output is that of the interview
+as-interviewed : (lent : Lent) (file : List ℕ) (l : Layout) (s : State) → completeOf file (layout.opening file) ≡ Table l
+    → opening (l .attributes) lent [] [] ≡ opened s → outputWith lent file ≡ beats (enough s) (tableOf file l) s 0
+unfolding outputWith
+as-interviewed lent file l s e o = ap (written lent file) e ∙ ap (interviewed (tableOf file l)) o
+
 pub table-ends : (lent : Lent) (file : List ℕ) (l : Layout) (s : State) → completeOf file (layout.opening file) ≡ Table l → opening (l .attributes) lent [] [] ≡ opened s
     → Concluded (l .attributes) (tableOf file l) (outputWith lent file) ⊎ Full (l .attributes) (outputWith lent file)
-unfolding outputWith
 table-ends lent file l s e o =
-    subst (λ x. Concluded (l .attributes) (tableOf file l) (written lent file x) ⊎ Full (l .attributes) (written lent file x)) (sym e)
-    (subst (λ x. Concluded (l .attributes) (tableOf file l) (interviewed (tableOf file l) x) ⊎ Full (l .attributes) (interviewed (tableOf file l) x)) (sym o)
-    (conclusion (tableOf file l) (l .attributes) lent s (complete-table file l e) o))
+    subst (λ t. Concluded (l .attributes) (tableOf file l) t ⊎ Full (l .attributes) t) (sym (as-interviewed lent file l s e o))
+    (conclusion (tableOf file l) (l .attributes) lent s (complete-table file l e) o)
 
 -- the program's places are accepted for every number of attributes that a file can have
 pub places-open : (n : ℕ) → 0 < n → n ≤ 64 → opening n places [] [] ≡ opened (openingState n places [] [])
@@ -58,10 +65,14 @@ places-open n l u =
     inside-m = rw (sub-inside (none-sub (full n)))
 
 pub program-ends : (file : List ℕ) (l : Layout) → completeOf file (layout.opening file) ≡ Table l
-    → Concluded (l .attributes) (tableOf file l) (output file) ⊎ Full (l .attributes) (output file)
+    → Concluded (l .attributes) (tableOf file l) (output file) ⊎ ListFull (l .attributes) (output file)
 program-ends file l e =
-    let t = table-attributes file l (complete-layout file l e) in
-    table-ends places file l _ e (places-open (l .attributes) (t .0) (t .1))
+    let k = complete-layout file l e in
+    let t = table-attributes file l k in
+    let o = places-open (l .attributes) (t .0) (t .1) in
+    subst (λ t. Concluded (l .attributes) (tableOf file l) t ⊎ ListFull (l .attributes) t) (sym (as-interviewed places file l _ e o))
+    (rows-suffice (tableOf file l) (l .attributes) places _ (complete-table file l e) o
+    (omega (arith, table-objects file l k, rows-count (l .objects) file (l .marks))))
 
 -- only a reply writes a line before the end
 pub output-size : (lent : Lent) (file : List ℕ) → length (outputWith lent file) ≤ 163840

@@ -1,0 +1,48 @@
+-- Of a layout that is found the line so many lines further on is the name; the names begin inside the file.
+use mathlib.Core.Path.{_≡_, sym, ap, _∙_}
+use mathlib.Core.Bool.{true}
+use lib.ListN.{drop}
+use borrow.Author.Tests.{not-true, not-false}
+use Rattle.burmeister.specs.declared.Line.{Line}
+use Rattle.burmeister.specs.Lines.{lineOf}
+use Rattle.burmeister.specs.Names.{finds, span}
+use Rattle.burmeister.specs.Names.Laws.{span-unfound, span-past, span-there}
+use borrow.Author.Needs.{needs}
+use Rattle.burmeister.proofs.span_of.Statement.{statement}
+use Rattle.burmeister.proofs.span_of.Tie as tie
+
+-- the layout is found
+found : (c : tie.Else1) → let a = c .before .before .before .args in finds (a .file .now) (a .layout) ≡ true
+found c = sym (c .before .is-found .ensures) ∙ not-false _ (c .if1 .left)
+
+is-found-requires : tie.Need-is-found-requires
+is-found-requires c κs = search needs
+
+returns : tie.Need-returns
+returns c =
+    let a = c .before .before .before .args in
+    sym (span-unfound _ (a .count) (a .start) (a .number) (a .file .now) (sym (c .before .is-found .ensures) ∙ not-true _ (c .if1 .taken)))
+
+returns-2 : tie.Need-returns-2
+returns-2 c =
+    let a = c .before .before .before .before .args in
+    sym (span-past (finds (a .file .now) (a .layout)) (a .count) (a .start) (a .number) (a .file .now) (c .if2 .taken))
+
+skip-requires : tie.Need-skip-requires
+skip-requires c κs = c .before .before .before .before .pre (found (c .before))
+
+line-at-requires : tie.Need-line-at-requires
+line-at-requires c κs = search needs
+
+returns-3 : tie.Need-returns-3
+returns-3 c =
+    let d = c .before .before in
+    let a = d .before .before .before .before .args in
+    ap (λ (l : Line). span (c .before .skip .result) (l .size)) (c .line-at .ensures)
+    ∙ ap (λ at. span at (lineOf (drop at (a .file .now)) .size)) (c .before .skip .ensures .0)
+    ∙ sym (span-there _ (a .count) (a .start) (a .number) (a .file .now) (found (d .before)) (d .if2 .left))
+
+pub span-of-spec : {M : Type 1} → statement M
+span-of-spec =
+    tie.close
+    (tie.spec is-found-requires returns returns-2 skip-requires line-at-requires returns-3)

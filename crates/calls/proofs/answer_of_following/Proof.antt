@@ -1,0 +1,28 @@
+-- Each arm writes the code and the two values of its own variant.
+use mathlib.Core.Path.{sym, ap}
+use borrow.Author.Needs.{needs}
+use Rattle.calls.specs.Codes.{codeOf}
+use Rattle.exploration.specs.Session.{followingAnswer}
+use Rattle.calls.proofs.answer_of_following.Statement.{statement}
+use Rattle.calls.proofs.answer_of_following.Tie as tie
+
+enum-told : tie.Need-enum-told
+enum-told c = search needs
+
+enum-told-2 : tie.Need-enum-told-2
+enum-told-2 c = search needs
+
+enum-known-answer : tie.Need-enum-known-answer
+enum-known-answer c = search needs
+
+returns : tie.Need-returns
+returns c = sym (ap (λ a. codeOf (followingAnswer a)) (c .enum-told .given .1))
+
+returns-2 : tie.Need-returns-2
+returns-2 c = sym (ap (λ a. codeOf (followingAnswer a)) (c .enum-told2 .given .1))
+
+returns-3 : tie.Need-returns-3
+returns-3 c = sym (ap (λ a. codeOf (followingAnswer a)) (c .before .answer .given .1))
+
+pub answer-of-following-spec : {M : Type 1} → statement M
+answer-of-following-spec = tie.close (tie.spec enum-told enum-told-2 enum-known-answer returns returns-2 returns-3)
