@@ -1,0 +1,124 @@
+/* Zundrafl for C: attribute exploration over a table with unknown marks.
+ *
+ * Link target/staticlib/libzundrafl.a. A set of attributes is a word, bit i for attribute i. A row is two words: the attributes
+ * marked yes, then those marked no; the rest are unknown. A rule is two words: premise, then conclusion. Rows, list and
+ * background are lent to every call as words and their number; the record says how many rows and list rules are in use.
+ *
+ * Every call writes *answer and touches nothing else that it is not said to write. A refusal has its number as the code and its
+ * place as the first value; it changes neither record nor words. Every pointer must be valid for its length, also where that is 0,
+ * and no two of those that a call may write may overlap; nothing else is asked of the caller.
+ */
+#ifndef ZUNDRAFL_H
+#define ZUNDRAFL_H
+
+#include <stddef.h>
+#include <stdint.h>
+
+#ifdef __cplusplus
+extern "C" {
+#endif
+
+enum {
+    ZUNDRAFL_MOST_ATTRIBUTES = 64,
+    ZUNDRAFL_MOST_ROWS = 512,  /* two words each */
+    ZUNDRAFL_MOST_RULES = 256, /* two words each, in the list and in the background */
+    ZUNDRAFL_MOST_BYTES = 65535
+};
+
+/* codes of answers that are no refusals */
+enum {
+    ZUNDRAFL_FINISHED = 100,
+    ZUNDRAFL_MOVED = 101,
+    ZUNDRAFL_ASKED = 102,    /* premise, conclusion */
+    ZUNDRAFL_TAKEN = 103,    /* an accepted opening or reply, a log that was made, a table that was read */
+    ZUNDRAFL_FOLLOWS = 104,  /* 1 or 0 */
+    ZUNDRAFL_REFUTED = 105,  /* the lowest row that refutes */
+    ZUNDRAFL_UNREFUTED = 106,
+    ZUNDRAFL_UNKNOWN = 107   /* in a log: a call of no known kind */
+};
+
+/* kinds of calls in a log */
+enum { ZUNDRAFL_STEP = 0, ZUNDRAFL_YES = 1, ZUNDRAFL_NO = 2, ZUNDRAFL_ASK_FOLLOWS = 3, ZUNDRAFL_ASK_REFUTED = 4 };
+
+/* the session record: attributes, rows and list rules in use, current set */
+typedef struct {
+    size_t n, rows, rules;
+    uint64_t current;
+} zundrafl_session;
+
+typedef struct {
+    uint64_t code, first, second;
+} zundrafl_answer;
+
+/* what an opened table keeps beside its file: the counts, and where the names of each kind and the marks begin */
+typedef struct {
+    size_t objects, attributes, object_names, attribute_names, marks;
+} zundrafl_layout;
+
+/* ---- the session. Every call runs these checks in this order:
+ *  1 n is not 1 to 64                                    5 row `place` marks an attribute both yes and no
+ *  2 a number of words is odd or above its limit         6 row `place` contradicts the rules in force
+ *  3 more rows or rules in use than words for them       7 the current set is not closed
+ *  4 an attribute outside the n
+ */
+
+/* Opens a session with the first `used` rows: an empty list, the closure of the empty set. Writes *session. 1 to 6. */
+void zundrafl_open(zundrafl_session *session, size_t n, size_t used, const uint64_t *rows, size_t row_words, const uint64_t *list, size_t list_words,
+                   const uint64_t *background, size_t background_words, zundrafl_answer *answer);
+
+/* FINISHED, ASKED (changes nothing, may be fetched again) or MOVED (writes *session). 1 to 7. */
+void zundrafl_step(zundrafl_session *session, const uint64_t *rows, size_t row_words, const uint64_t *list, size_t list_words,
+                   const uint64_t *background, size_t background_words, zundrafl_answer *answer);
+
+/* Yes to the standing question: writes it as the next list rule, and *session. 1 to 7; 8 no question stands; 11 row `place` in use
+ * contradicts with the new rule; 12 no place for a rule. */
+void zundrafl_accept(zundrafl_session *session, const uint64_t *rows, size_t row_words, uint64_t *list, size_t list_words,
+                     const uint64_t *background, size_t background_words, zundrafl_answer *answer);
+
+/* No to the standing question, with a row that refutes it: writes it as the next row, and *session. 1 to 8; 9 the row has an
+ * attribute outside the n or marks one both ways; 10 it does not refute the question; 11 it contradicts the rules in force; 12 no
+ * place for a row. */
+void zundrafl_reject(zundrafl_session *session, uint64_t *rows, size_t row_words, const uint64_t *list, size_t list_words,
+                     const uint64_t *background, size_t background_words, uint64_t yes, uint64_t no, zundrafl_answer *answer);
+
+/* Whether a rule follows from background and list: FOLLOWS with 1 or 0. 1 to 7. */
+void zundrafl_follows(zundrafl_session *session, const uint64_t *rows, size_t row_words, const uint64_t *list, size_t list_words,
+                      const uint64_t *background, size_t background_words, uint64_t premise, uint64_t conclusion, zundrafl_answer *answer);
+
+/* Whether a row refutes a rule: REFUTED with the lowest such row, or UNREFUTED. 1 to 7. */
+void zundrafl_refuted(zundrafl_session *session, const uint64_t *rows, size_t row_words, const uint64_t *list, size_t list_words,
+                      const uint64_t *background, size_t background_words, uint64_t premise, uint64_t conclusion, zundrafl_answer *answer);
+
+/* Makes a log of calls, three words each (kind, two arguments), and writes the answers, three words each, with rows, list and
+ * *session as the calls leave them. Words past the last whole three are not read. 3 where the answers have no room for all calls:
+ * nothing is done then. */
+void zundrafl_replay(zundrafl_session *session, uint64_t *rows, size_t row_words, uint64_t *list, size_t list_words, const uint64_t *background,
+                     size_t background_words, const uint64_t *calls, size_t call_words, uint64_t *answers, size_t answer_words,
+                     zundrafl_answer *answer);
+
+/* ---- the table file, in Burmeister's layout. `place` is the byte offset of the first line that breaks a rule:
+ * 21 longer than 65,535 bytes       24 a count out of range          27 a line of marks
+ * 22 the first line is not `B`      25 the title or the empty line   28 a line after the last one needed is not empty
+ * 23 a count line                   26 a name
+ */
+
+/* Opens a table file and writes *layout. 21 to 28. */
+void zundrafl_open_table(zundrafl_layout *layout, const uint8_t *file, size_t bytes, zundrafl_answer *answer);
+
+/* The same for a table that has to be complete. 21 to 28; 29 a mark is unknown. */
+void zundrafl_open_complete(zundrafl_layout *layout, const uint8_t *file, size_t bytes, zundrafl_answer *answer);
+
+/* Writes the rows of a table file into lent words, and *layout; words past the rows are kept. 2 the number of words is odd or above
+ * 1,024; 21 to 28; 3 too few words. */
+void zundrafl_read_marks(zundrafl_layout *layout, const uint8_t *file, size_t bytes, uint64_t *rows, size_t row_words, zundrafl_answer *answer);
+
+/* Where the name of a row or an attribute stands in the file: TAKEN with its offset and its number of bytes, 1 to 80. 3 for a number
+ * past the last, and for a layout that is not the one that reading the file finds. */
+void zundrafl_object_name(zundrafl_layout *layout, const uint8_t *file, size_t bytes, size_t number, zundrafl_answer *answer);
+void zundrafl_attribute_name(zundrafl_layout *layout, const uint8_t *file, size_t bytes, size_t number, zundrafl_answer *answer);
+
+#ifdef __cplusplus
+}
+#endif
+
+#endif

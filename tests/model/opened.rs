@@ -1,0 +1,84 @@
+//! Opened tables: the calls that read a table file and look into it (document 01, "The table file").
+
+use crate::machine::{ACCEPTED, Answer, MAX_ROW_WORDS};
+use crate::table::{self, Refusal, Table};
+
+/// The counts and offsets of an opened table.
+#[repr(C)]
+#[derive(Clone, Copy, Debug, PartialEq, Eq)]
+pub struct Layout {
+    pub objects: usize,
+    pub attributes: usize,
+    pub object_names: usize,
+    pub attribute_names: usize,
+    pub marks: usize,
+}
+
+impl From<Refusal> for Answer {
+    fn from(refusal: Refusal) -> Answer {
+        Answer::refusal(refusal.number, refusal.place)
+    }
+}
+
+fn layout_of(table: &Table) -> Layout {
+    let [object_names, attribute_names, marks] = table.offsets;
+    Layout { objects: table.row_names.len(), attributes: table.properties, object_names, attribute_names, marks }
+}
+
+fn open(layout: &mut Layout, file: &[u8], complete: bool) -> Answer {
+    let table = match table::read(file) {
+        Ok(table) => table,
+        Err(refusal) => return refusal.into(),
+    };
+    if let Some(refusal) = table.unknown().filter(|_| complete) {
+        return refusal.into();
+    }
+    *layout = layout_of(&table);
+    Answer::accepted()
+}
+
+pub fn open_table(layout: &mut Layout, file: &[u8]) -> Answer {
+    open(layout, file, false)
+}
+
+pub fn open_complete(layout: &mut Layout, file: &[u8]) -> Answer {
+    open(layout, file, true)
+}
+
+pub fn read_marks(layout: &mut Layout, file: &[u8], rows: &mut [u64]) -> Answer {
+    if rows.len() % 2 == 1 || rows.len() > MAX_ROW_WORDS {
+        return Answer::refusal(2, 0);
+    }
+    let table = match table::read(file) {
+        Ok(table) => table,
+        Err(refusal) => return refusal.into(),
+    };
+    let marks = table.rows();
+    if marks.len() > rows.len() / 2 {
+        return Answer::refusal(3, 0);
+    }
+    for (place, row) in rows.chunks_exact_mut(2).zip(marks) {
+        (place[0], place[1]) = row;
+    }
+    *layout = layout_of(&table);
+    Answer::accepted()
+}
+
+fn name(layout: &Layout, file: &[u8], number: usize, names: impl Fn(Table<'_>) -> Vec<&[u8]>) -> Answer {
+    let found = table::read(file).ok().filter(|table| layout_of(table) == *layout);
+    match found.and_then(|table| names(table).get(number).copied()) {
+        Some(name) => {
+            let offset = name.as_ptr() as usize - file.as_ptr() as usize;
+            Answer::new(ACCEPTED, offset as u64, name.len() as u64)
+        }
+        None => Answer::refusal(3, 0),
+    }
+}
+
+pub fn object_name(layout: &Layout, file: &[u8], number: usize) -> Answer {
+    name(layout, file, number, |table| table.row_names)
+}
+
+pub fn attribute_name(layout: &Layout, file: &[u8], number: usize) -> Answer {
+    name(layout, file, number, |table| table.property_names)
+}

@@ -1,0 +1,640 @@
+//! Scripts of session calls: interviews with truthful and with random replies, damaged records and words, logs.
+
+use crate::Tally;
+use crate::fenced::Fenced;
+use crate::library::*;
+use crate::machine::{self, ASKED, Answer, CALL_WORDS, FINISHED, MAX_ROW_WORDS, MAX_RULE_WORDS, Record};
+use crate::random::Random;
+use crate::sets::{self, Pair};
+use crate::{hex, show};
+
+/// The kinds of call, each with the codes that it can give. Logged calls are those that a replay makes.
+pub const KINDS: &[(&str, &[u64])] = &[
+    ("open", &[1, 2, 3, 4, 5, 6, 103]),
+    ("step", &[1, 2, 3, 4, 5, 6, 7, 100, 101, 102]),
+    ("yes", &[1, 2, 3, 4, 5, 6, 7, 8, 11, 12, 103]),
+    ("no", &[1, 2, 3, 4, 5, 6, 7, 8, 9, 10, 11, 12, 103]),
+    ("follows", &[1, 2, 3, 4, 5, 6, 7, 104]),
+    ("refuted", &[1, 2, 3, 4, 5, 6, 7, 105, 106]),
+    ("replay", &[3, 103]),
+    ("logged", &[1, 2, 3, 4, 5, 6, 7, 8, 9, 10, 11, 12, 100, 101, 102, 103, 104, 105, 106, 107]),
+];
+
+/// No interview of a script has more calls than this.
+const MAX_CALLS: usize = 500;
+
+const FENCE_WORD: u64 = 0xfe4c_e000_0000_fe4c;
+const FENCE_ANSWER: Answer = Answer { code: FENCE_WORD, first: FENCE_WORD, second: FENCE_WORD };
+const FENCE_RECORD: Record = Record { n: 0xfe4c, rows: 0xfe4c, rules: 0xfe4c, current: FENCE_WORD };
+
+/// The record and the lent words.
+#[derive(Clone, PartialEq)]
+struct State {
+    record: Record,
+    rows: Vec<u64>,
+    list: Vec<u64>,
+    background: Vec<u64>,
+}
+
+#[derive(Clone)]
+enum Call {
+    Open { n: usize, used: usize },
+    Step,
+    Yes,
+    No(Pair),
+    Follows(Pair),
+    Refuted(Pair),
+    Replay { calls: Vec<u64>, answers: Vec<u64> },
+}
+
+/// What a call answers and leaves.
+#[derive(PartialEq)]
+struct Outcome {
+    answer: Answer,
+    state: State,
+    calls: Vec<u64>,
+    answers: Vec<u64>,
+    /// Nothing outside the lent memory was written.
+    inside: bool,
+}
+
+impl Call {
+    fn kind(&self) -> &'static str {
+        match self {
+            Call::Open { .. } => "open",
+            Call::Step => "step",
+            Call::Yes => "yes",
+            Call::No(_) => "no",
+            Call::Follows(_) => "follows",
+            Call::Refuted(_) => "refuted",
+            Call::Replay { .. } => "replay",
+        }
+    }
+
+    /// The log of a replay and the words for its answers.
+    fn log(&self) -> (&[u64], &[u64]) {
+        match self {
+            Call::Replay { calls, answers } => (calls, answers),
+            _ => (&[], &[]),
+        }
+    }
+
+    fn show(&self) -> String {
+        let kind = self.kind();
+        match self {
+            Call::Open { n, used } => format!("{kind}, n {n}, rows in use {used}"),
+            Call::Step | Call::Yes => kind.to_string(),
+            Call::No(pair) | Call::Follows(pair) | Call::Refuted(pair) => format!("{kind} {:#x} {:#x}", pair.0, pair.1),
+            Call::Replay { calls, answers } => format!("{kind}\n  log {}\n  answers {}", hex(calls), hex(answers)),
+        }
+    }
+}
+
+fn show_state(state: &State) -> String {
+    let State { record: Record { n, rows, rules, current }, .. } = state;
+    let (row_words, list, background) = (hex(&state.rows), hex(&state.list), hex(&state.background));
+    format!(
+        "  record n {n}, rows {rows}, rules {rules}, current {current:#x}\n  \
+         rows {row_words}\n  list {list}\n  background {background}\n"
+    )
+}
+
+fn show_outcome(outcome: &Outcome) -> String {
+    let Outcome { answer, state, calls, answers, inside } = outcome;
+    let outside = if *inside { "" } else { "  written outside the lent memory\n" };
+    let (answer, state, calls, answers) = (show(answer), show_state(state), hex(calls), hex(answers));
+    format!("  answer {answer}\n{state}  log {calls}\n  answers {answers}\n{outside}")
+}
+
+fn by_model(state: &State, call: &Call) -> Outcome {
+    let mut state = state.clone();
+    let (calls, answers) = call.log();
+    let (calls, mut answers) = (calls.to_vec(), answers.to_vec());
+    let State { record, rows, list, background } = &mut state;
+    let answer = match *call {
+        Call::Open { n, used } => machine::open(record, n, used, rows, list, background),
+        Call::Step => machine::step(record, rows, list, background),
+        Call::Yes => machine::yes(record, rows, list, background),
+        Call::No(row) => machine::no(record, rows, list, background, row),
+        Call::Follows(rule) => machine::follows(record, rows, list, background, rule),
+        Call::Refuted(rule) => machine::refuted(record, rows, list, background, rule),
+        Call::Replay { .. } => machine::replay(record, rows, list, background, &calls, &mut answers),
+    };
+    Outcome { answer, state, calls, answers, inside: true }
+}
+
+fn by_library(state: &State, call: &Call) -> Outcome {
+    let words = |content: &[u64]| Fenced::new(content, FENCE_WORD);
+    let mut session = Fenced::new(&[state.record], FENCE_RECORD);
+    let mut answer = Fenced::new(&[FENCE_ANSWER], FENCE_ANSWER);
+    let (mut rows, mut list, mut background) = (words(&state.rows), words(&state.list), words(&state.background));
+    let (mut calls, mut answers) = (words(call.log().0), words(call.log().1));
+
+    let ((s, _), (a, _)) = (session.lend(), answer.lend());
+    let ((r, r_len), (l, l_len), (b, b_len)) = (rows.lend(), list.lend(), background.lend());
+    let ((c, c_len), (w, w_len)) = (calls.lend(), answers.lend());
+    // SAFETY: each pointer leads to as many elements as its length says, and all of them outlive the call.
+    unsafe {
+        match *call {
+            Call::Open { n, used } => zundrafl_open(s, n, used, r, r_len, l, l_len, b, b_len, a),
+            Call::Step => zundrafl_step(s, r, r_len, l, l_len, b, b_len, a),
+            Call::Yes => zundrafl_accept(s, r, r_len, l, l_len, b, b_len, a),
+            Call::No((yes, no)) => zundrafl_reject(s, r, r_len, l, l_len, b, b_len, yes, no, a),
+            Call::Follows((premise, conclusion)) => {
+                zundrafl_follows(s, r, r_len, l, l_len, b, b_len, premise, conclusion, a)
+            }
+            Call::Refuted((premise, conclusion)) => {
+                zundrafl_refuted(s, r, r_len, l, l_len, b, b_len, premise, conclusion, a)
+            }
+            Call::Replay { .. } => zundrafl_replay(s, r, r_len, l, l_len, b, b_len, c, c_len, w, w_len, a),
+        }
+    }
+
+    let inside = session.intact()
+        && answer.intact()
+        && [&rows, &list, &background, &calls, &answers].into_iter().all(Fenced::intact);
+    Outcome {
+        answer: answer.content()[0],
+        state: State {
+            record: session.content()[0],
+            rows: rows.content().to_vec(),
+            list: list.content().to_vec(),
+            background: background.content().to_vec(),
+        },
+        calls: calls.content().to_vec(),
+        answers: answers.content().to_vec(),
+        inside,
+    }
+}
+
+/// What a step asks, or what it might ask where it does not.
+fn question(state: &State) -> Pair {
+    let Answer { code, first, second } = by_model(state, &Call::Step).answer;
+    let current = state.record.current;
+    if code == ASKED { (first, second) } else { (current, sets::all(state.record.n) & !current) }
+}
+
+fn pairs(words: &[u64], used: usize) -> Vec<Pair> {
+    words.chunks_exact(2).take(used).map(|pair| (pair[0], pair[1])).collect()
+}
+
+fn in_force(state: &State) -> Vec<Pair> {
+    [pairs(&state.background, usize::MAX), pairs(&state.list, state.record.rules)].concat()
+}
+
+struct Script<'a> {
+    random: Random,
+    tally: &'a mut Tally,
+    state: State,
+    /// The complete table that truthful replies come from.
+    truth: Vec<Pair>,
+    /// The calls before, for the report of a failure.
+    played: Vec<(Call, Answer)>,
+}
+
+pub fn play(mut random: Random, tally: &mut Tally) -> Result<(), String> {
+    let record =
+        Record { n: random.below(99), rows: random.below(99), rules: random.below(99), current: random.word() };
+    let state = State { record, rows: vec![], list: vec![], background: vec![] };
+    let mut script = Script { random, tally, state, truth: vec![], played: vec![] };
+    match script.random.below(4) {
+        0 => {
+            script.make_soup();
+            script.drive(6, 2, false)
+        }
+        1 => {
+            script.make_middle();
+            script.drive(12, 2, true)
+        }
+        _ => {
+            let (noise, honest) = (3 + script.random.below(40), script.random.below(2) == 0);
+            let call = script.make_start();
+            script.call_damaged(call.clone())?;
+            script.state = script.call(script.state.clone(), call)?.state;
+            script.drive(MAX_CALLS, noise, honest)
+        }
+    }
+}
+
+impl Script<'_> {
+    fn chance(&mut self, one_in: usize) -> bool {
+        self.random.below(one_in) == 0
+    }
+
+    /// A complete row over M.
+    fn complete_row(&mut self, all: u64) -> Pair {
+        let yes = self.random.subset(all);
+        (yes, all & !yes)
+    }
+
+    /// Words for some places more than those in use, with anything in them.
+    fn lent(&mut self, used: &[Pair], more: usize, limit: usize) -> Vec<u64> {
+        let mut words: Vec<u64> = used.iter().flat_map(|&(first, second)| [first, second]).collect();
+        let length = (words.len() + 2 * more).min(limit);
+        let rest = self.random.words(length - words.len());
+        words.extend(rest);
+        words
+    }
+
+    /// Free places: few, plenty, or all.
+    fn places(&mut self) -> usize {
+        match self.random.below(8) {
+            0..3 => self.random.below(4),
+            3..7 => 50 + self.random.below(100),
+            _ => MAX_ROW_WORDS,
+        }
+    }
+
+    /// The start of an interview: background and rows that the complete table agrees with. Returns its opening.
+    fn make_start(&mut self) -> Call {
+        let n = match self.random.below(8) {
+            0 => 64,
+            1 => 7 + self.random.below(57),
+            _ => 1 + self.random.below(6),
+        };
+        let all = sets::all(n);
+        let count = self.random.below(if n > 6 { 6 } else { 16 });
+        self.truth = (0..count).map(|_| self.complete_row(all)).collect();
+        let mut background = vec![];
+        for _ in 0..self.random.below(4) {
+            let premise = self.random.subset(all);
+            let conclusion = self.random.subset(sets::reach(&self.truth, n, premise));
+            background.push((premise, conclusion));
+        }
+        let mut rows = vec![];
+        for _ in 0..if count == 0 { 0 } else { self.random.below(4) } {
+            let (yes, no) = self.truth[self.random.below(count)];
+            rows.push((self.random.subset(yes), self.random.subset(no)));
+        }
+        let (row_places, list_places) = (self.places(), self.places());
+        self.state.rows = self.lent(&rows, row_places, MAX_ROW_WORDS);
+        self.state.list = self.lent(&[], list_places, MAX_RULE_WORDS);
+        self.state.background = self.lent(&background, 0, MAX_RULE_WORDS);
+        Call::Open { n, used: rows.len() }
+    }
+
+    /// A number up to a limit, often close to it.
+    fn up_to(&mut self, limit: usize) -> usize {
+        if self.chance(2) { limit - self.random.below(2) } else { self.random.below(limit + 1) }
+    }
+
+    /// The middle of a longer interview: rows from a system of closed sets.
+    fn make_middle(&mut self) {
+        let n = if self.chance(2) { 64 } else { 7 + self.random.below(57) };
+        let all = sets::all(n);
+        let (max_rows, max_rules) = if self.chance(20) { (512, 256) } else { (40, 12) };
+        let (rows, list, background) = (self.up_to(max_rows), self.up_to(max_rules), self.up_to(max_rules));
+        let members = 2 + self.random.below(8);
+        let rules: Vec<Pair> = (0..list + background)
+            .map(|_| {
+                let premise = (0..members).fold(0, |set, _| set | self.random.member(all));
+                (premise, self.random.member(all) | self.random.member(all))
+            })
+            .collect();
+        let closed = |random: &mut Random| sets::closure(&rules, random.subset(all) & random.subset(all));
+        self.truth = (0..rows).map(|_| closed(&mut self.random)).map(|yes| (yes, all & !yes)).collect();
+        let current = closed(&mut self.random);
+        let rows: Vec<Pair> = self.truth.iter().map(|&(yes, no)| (yes, self.random.subset(no))).collect();
+        self.state.record = Record { n, rows: rows.len(), rules: list, current };
+        let (row_places, list_places) = (self.places(), self.places());
+        self.state.rows = self.lent(&rows, row_places, MAX_ROW_WORDS);
+        self.state.list = self.lent(&rules[..list], list_places, MAX_RULE_WORDS);
+        self.state.background = self.lent(&rules[list..], 0, MAX_RULE_WORDS);
+    }
+
+    /// Anything over a few properties.
+    fn make_soup(&mut self) {
+        let n = 1 + self.random.below(3);
+        let all = sets::all(n);
+        let outside = if self.chance(8) { all + 1 } else { 0 };
+        let some_rules = |random: &mut Random| -> Vec<Pair> {
+            (0..random.below(3)).map(|_| (random.subset(all), random.subset(all | outside))).collect()
+        };
+        let (list, background) = (some_rules(&mut self.random), some_rules(&mut self.random));
+        let mut rows = vec![];
+        for _ in 0..self.random.below(4) {
+            let yes = self.random.subset(all | outside);
+            let no = self.random.subset(all);
+            rows.push(if self.chance(8) { (yes, no) } else { (yes, no & !yes) });
+        }
+        let rules = [background.as_slice(), &list].concat();
+        let some = self.random.subset(all | outside);
+        let current = if self.chance(4) { some } else { sets::closure(&rules, some) };
+        self.truth = (0..self.random.below(3)).map(|_| self.complete_row(all)).collect();
+        self.state.record = Record { n, rows: rows.len(), rules: list.len(), current };
+        let (row_places, list_places) = (self.random.below(3), self.random.below(3));
+        self.state.rows = self.lent(&rows, row_places, MAX_ROW_WORDS);
+        self.state.list = self.lent(&list, list_places, MAX_RULE_WORDS);
+        self.state.background = self.lent(&background, 0, MAX_RULE_WORDS);
+    }
+
+    /// Makes a call by library and model from the same state.
+    fn call(&mut self, state: State, call: Call) -> Result<Outcome, String> {
+        if self.tally.loud {
+            print!("{}\n{}", call.show(), show_state(&state));
+        }
+        let expected = by_model(&state, &call);
+        let found = by_library(&state, &call);
+        if found != expected {
+            return Err(self.report(&state, &call, &expected, &found));
+        }
+        self.tally.add(call.kind(), expected.answer.code);
+        if matches!(call, Call::Replay { .. }) && expected.answer == Answer::accepted() {
+            let count = expected.calls.len() / CALL_WORDS;
+            for answer in expected.answers.chunks_exact(CALL_WORDS).take(count) {
+                self.tally.add("logged", answer[0]);
+            }
+        }
+        self.played.push((call, expected.answer));
+        Ok(expected)
+    }
+
+    fn report(&self, state: &State, call: &Call, expected: &Outcome, found: &Outcome) -> String {
+        let before = self.played.iter().map(|(call, answer)| format!("{}\n  answer {}\n", call.show(), show(answer)));
+        format!(
+            "calls before:\n{}failing call:\n{}\n{}model:\n{}library:\n{}",
+            before.collect::<String>(),
+            call.show(),
+            show_state(state),
+            show_outcome(expected),
+            show_outcome(found)
+        )
+    }
+
+    /// Steps and truthful replies to the end, one call in `noise` another one. Honest scripts forget what those change.
+    fn drive(&mut self, calls: usize, noise: usize, honest: bool) -> Result<(), String> {
+        for _ in 0..calls {
+            if self.chance(noise) {
+                self.disturb(honest)?;
+                continue;
+            }
+            let stepped = self.call(self.state.clone(), Call::Step)?;
+            self.state = stepped.state;
+            if stepped.answer.code == FINISHED {
+                self.disturb(honest)?;
+                return self.disturb(honest);
+            }
+            if stepped.answer.code == ASKED {
+                let reply = self.truthful((stepped.answer.first, stepped.answer.second));
+                let replied = self.call(self.state.clone(), reply)?;
+                self.state = replied.state;
+                if replied.answer != Answer::accepted() {
+                    return self.disturb(honest);
+                }
+            }
+        }
+        Ok(())
+    }
+
+    /// The reply of the complete table: the marks that refute, and some of the other marks.
+    fn truthful(&mut self, question: Pair) -> Call {
+        match self.truth.iter().find(|&&row| sets::refutes(row, question)) {
+            Some(&(yes, no)) => {
+                let lacking = self.random.member(no & question.1);
+                Call::No((question.0 | self.random.subset(yes), lacking | self.random.subset(no)))
+            }
+            None => Call::Yes,
+        }
+    }
+
+    /// Any call, from the state or from a damaged copy.
+    fn disturb(&mut self, honest: bool) -> Result<(), String> {
+        let call = self.any_call(&self.state.clone());
+        if self.chance(2) {
+            return self.call_damaged(call);
+        }
+        let left = self.call(self.state.clone(), call)?.state;
+        if !honest {
+            self.state = left;
+        }
+        Ok(())
+    }
+
+    /// Makes a call from a damaged copy of the state.
+    fn call_damaged(&mut self, call: Call) -> Result<(), String> {
+        let mut state = self.state.clone();
+        if let Call::Open { n, used } = call {
+            (state.record.n, state.record.rows) = (n, used);
+        }
+        for _ in 0..[1, 1, 2, 3][self.random.below(4)] {
+            self.damage(&mut state);
+        }
+        let call = match call {
+            Call::Open { .. } => Call::Open { n: state.record.n, used: state.record.rows },
+            call => call,
+        };
+        self.call(state, call).map(|_| ())
+    }
+
+    fn any_call(&mut self, state: &State) -> Call {
+        match self.random.below(16) {
+            0 => Call::Open { n: state.record.n, used: state.record.rows },
+            1 | 2 => Call::Step,
+            3 | 4 => Call::Yes,
+            5..9 => Call::No(self.any_row(state)),
+            9..12 => Call::Follows(self.any_rule(state)),
+            12..15 => Call::Refuted(self.any_rule(state)),
+            _ => self.any_replay(state),
+        }
+    }
+
+    /// A row that refutes the question, or one with a fault.
+    fn any_row(&mut self, state: &State) -> Pair {
+        let all = sets::all(state.record.n);
+        let (premise, conclusion) = question(state);
+        let lacking = self.random.member(conclusion);
+        let more = if self.chance(2) { 0 } else { self.random.subset(all & !lacking) };
+        let yes = premise | more;
+        let no = lacking | self.random.subset(all & !yes);
+        match self.random.below(9) {
+            0 => (yes, no | self.random.member(yes)),
+            1 => (yes | self.random.member(!all), no),
+            2 => (yes, no | self.random.member(!all)),
+            3 => (yes & !self.random.member(premise), no),
+            4 => (yes, no & !conclusion),
+            5 => {
+                let (premise, conclusion) = self.any_in_force(state);
+                let yes = yes | premise;
+                (yes, (no | conclusion) & !yes)
+            }
+            _ => (yes, no),
+        }
+    }
+
+    /// One of the rules in force, or one that says nothing.
+    fn any_in_force(&mut self, state: &State) -> Pair {
+        let rules = in_force(state);
+        if rules.is_empty() { (0, 0) } else { rules[self.random.below(rules.len())] }
+    }
+
+    /// A rule to ask about.
+    fn any_rule(&mut self, state: &State) -> Pair {
+        let all = sets::all(state.record.n);
+        let (premise, conclusion) = (self.random.subset(all), self.random.subset(all));
+        match self.random.below(8) {
+            0 => question(state),
+            1 => self.any_in_force(state),
+            2 => (premise | self.random.member(!all), conclusion),
+            3 => (premise, conclusion | self.random.member(!all)),
+            4 if state.record.rows > 0 && state.rows.len() > 1 => {
+                let rows = pairs(&state.rows, state.record.rows);
+                let (yes, no) = rows[self.random.below(rows.len())];
+                (self.random.subset(yes), no)
+            }
+            5 => (premise, sets::closure(&in_force(state), premise)),
+            _ => (premise, conclusion),
+        }
+    }
+
+    /// A log of calls that lead on from the state, of others and of unknown kinds, with room for its answers or without.
+    fn any_replay(&mut self, state: &State) -> Call {
+        let mut state = state.clone();
+        let mut calls = vec![];
+        let longest = if self.chance(20) { 300 } else { 40 };
+        let count = self.random.below(longest);
+        for _ in 0..count {
+            let call = match self.random.below(8) {
+                0 => Call::Follows(self.any_rule(&state)),
+                1 => Call::Refuted(self.any_rule(&state)),
+                2 => Call::No(self.any_row(&state)),
+                3 => Call::Yes,
+                4 => Call::Step,
+                _ => match by_model(&state, &Call::Step).answer {
+                    Answer { code: ASKED, first, second } => self.truthful((first, second)),
+                    _ => Call::Step,
+                },
+            };
+            let rest = (self.random.word(), self.random.word());
+            let (kind, pair) = match call {
+                Call::Yes => (1, rest),
+                Call::No(pair) => (2, pair),
+                Call::Follows(pair) => (3, pair),
+                Call::Refuted(pair) => (4, pair),
+                _ => (0, rest),
+            };
+            if self.chance(12) {
+                calls.extend([5 + self.random.word() % 3, pair.0, pair.1]);
+            } else if self.chance(40) {
+                calls.extend([kind | 1 << 32, pair.0, pair.1]);
+            } else {
+                calls.extend([kind, pair.0, pair.1]);
+                state = by_model(&state, &call).state;
+            }
+        }
+        let answers = match self.random.below(4) {
+            0 => (CALL_WORDS * count).saturating_sub(1 + self.random.below(4)),
+            1 => CALL_WORDS * count,
+            _ => CALL_WORDS * count + self.random.below(5),
+        };
+        let trailing = self.random.below(CALL_WORDS);
+        calls.extend(self.random.words(trailing));
+        Call::Replay { calls, answers: self.random.words(answers) }
+    }
+
+    /// Damages, or nearly damages, the record or the lent words.
+    fn damage(&mut self, state: &mut State) {
+        let all = sets::all(state.record.n);
+        match self.random.below(17) {
+            0 => state.record.n = [0, 65, 66, 1 << 32, 1 << 63, usize::MAX][self.random.below(6)],
+            1 => state.record.n = 1 + self.random.below(64),
+            2 => state.record.rows = self.any_use(state.rows.len()),
+            3 => state.record.rules = self.any_use(state.list.len()),
+            4 | 5 => state.record.current = self.any_current(state),
+            6 => {
+                // One place less than is in use.
+                state.rows.truncate((2 * state.record.rows.min(MAX_ROW_WORDS)).saturating_sub(2));
+                state.list.truncate((2 * state.record.rules.min(MAX_RULE_WORDS)).saturating_sub(2));
+            }
+            7 => {
+                // All places in use.
+                state.rows.truncate(state.record.rows.saturating_mul(2));
+                state.list.truncate(state.record.rules.saturating_mul(2));
+            }
+            8 => {
+                let (words, _) = self.any_lent(state);
+                if self.chance(2) {
+                    words.pop();
+                } else {
+                    words.push(self.random.word() & all);
+                }
+            }
+            9 => {
+                let (words, limit) = self.any_lent(state);
+                words.resize(limit + self.random.below(5), 0);
+            }
+            10 | 11 => {
+                let (words, _) = self.any_lent(state);
+                if !words.is_empty() {
+                    let at = self.random.below(words.len());
+                    words[at] |= self.random.member(!all);
+                }
+            }
+            12 => {
+                // Marked both ways.
+                if let Some(row) = self.any_row_in_use(state) {
+                    row[1] |= self.random.member(row[0]);
+                }
+            }
+            13 | 14 => {
+                // Contradicts a rule in force.
+                let (premise, conclusion) = self.any_in_force(state);
+                if let Some(row) = self.any_row_in_use(state) {
+                    row[0] |= premise;
+                    row[1] = (row[1] | conclusion) & !row[0];
+                }
+            }
+            15 => state.background.extend([self.random.subset(all), self.random.subset(all)]),
+            _ => {
+                // The current set is closed no more.
+                let current = state.record.current;
+                state.background.extend([self.random.subset(current), self.random.member(all & !current)]);
+            }
+        }
+    }
+
+    /// How many places are said to be in use.
+    fn any_use(&mut self, words: usize) -> usize {
+        let places = words / 2;
+        match self.random.below(8) {
+            0 => usize::MAX,
+            1 => 1 << 63,
+            2 => (1 << 63) + 1,
+            3 => self.random.word() as usize,
+            4 => places,
+            5 => self.random.below(places + 1),
+            _ => places + 1,
+        }
+    }
+
+    fn any_current(&mut self, state: &State) -> u64 {
+        let all = sets::all(state.record.n);
+        let some = self.random.subset(all);
+        match self.random.below(6) {
+            0 => self.random.word(),
+            1 => state.record.current | self.random.member(!all),
+            2 => all,
+            3 => sets::closure(&in_force(state), some),
+            4 => {
+                let (premise, conclusion) = self.any_in_force(state);
+                (some | premise) & !self.random.member(conclusion & !premise)
+            }
+            _ => some,
+        }
+    }
+
+    /// One of the lent slices and its limit.
+    fn any_lent<'s>(&mut self, state: &'s mut State) -> (&'s mut Vec<u64>, usize) {
+        match self.random.below(3) {
+            0 => (&mut state.rows, MAX_ROW_WORDS),
+            1 => (&mut state.list, MAX_RULE_WORDS),
+            _ => (&mut state.background, MAX_RULE_WORDS),
+        }
+    }
+
+    /// A row in use, often the last.
+    fn any_row_in_use<'s>(&mut self, state: &'s mut State) -> Option<&'s mut [u64]> {
+        let last = state.record.rows.min(state.rows.len() / 2).checked_sub(1)?;
+        let number = if self.chance(3) { last } else { self.random.below(last + 1) };
+        state.rows.chunks_exact_mut(2).nth(number)
+    }
+}
