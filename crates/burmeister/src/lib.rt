@@ -47,6 +47,7 @@ enum Walk {
 }
 
 // What an opened table keeps beside its file: the counts, and where the names of each kind and the marks begin.
+#[repr(C)]
 pub struct Layout {
     pub objects: usize,
     pub attributes: usize,

@@ -8,6 +8,7 @@ ghost use Rattle.calls.specs.Codes.{coded, codeOf, codeOfOpening, Openin
 ghost use Rattle.calls.specs.Replay.{callOf, replayCode, replayAfter, PastKept, wordsOf, ReplaySays, ReplayCodes};
 
 // An answer in three words; a refusal has its own number as its code, and its place as the first value.
+#[repr(C)]
 pub struct Answer {
     pub code: u64,
     pub first: u64,

@@ -15,6 +15,7 @@ ghost use Rattle.machine.specs.Checks.{mostAttributes, mostObjects, mostImplica
 ghost use Rattle.machine.specs.Machine.{step as stepping, accept, reject, follow, refute, perform};
 ghost use Rattle.exploration.specs.Session.{stateOf, verdictOf, strangePair, standingAt, stepAnswer, replyAnswer, followingAnswer, refutingAnswer, openingOf, openingFrom, fitChecks, joinChecks, askingOf, askingAt, listAfter, rowsAfter};
 
+#[repr(C)]
 pub struct Session {
     pub n: usize,
     pub rows: usize,

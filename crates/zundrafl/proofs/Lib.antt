@@ -1,0 +1,10 @@
+pub mod Walks
+pub mod Lent
+pub mod Behind
+pub mod Calls
+pub mod Tools
+pub mod Opening
+pub mod Spanning
+pub mod Asking
+pub mod Viewed
+pub mod Named

@@ -1,0 +1,123 @@
+-- The record is read, the coded no is called on it with the rows lent on, and what it gives back is stored: a walk of the MIR.
+use contract.Running.{givenOf, tables, tablesOf}
+use denote.Struct.Laws as LL
+use Rattle.zundrafl.proofs.Tools.{refl, [], _∷_, URA, fullShare, erased, named, w64, Val, SProp, ent, id⊢, flft, fat, Memory, Routine, Heap, Calls, Loops, WpFn, Atoms, Lfts, Shares, toks, Fun, Given, ‵, raw, _⊛_, _$_, _∵_, !, qed, move, drop, rewrite, fjoin, suffices, look, init, stop, hop, fld, from, addr, of-opd, unit-lit, and-then, no-more, land, returns, enter, alloc1, alloc0, params1, pass1, pass0, free0, agg, whole, sub, look-in, FmC, fmOf, owns, flat, Is, Are, Ises, Spells, valss, uint-vals, uint-tells, uint-lawful, u64, ptr-vals, mut-tells, slice-vals, mut-slice-tells, mut-slice-lawful, shr-slice-tells, shr-slice-lawful, typesAt, owned, Contract, Triple, Args, Vals, onEntry, tripleOf, entered, cited, walkOf, ends-at, all-told, meets, called, learnt, copied, field-of, sets, freed, loads, stores, firsts, shares, parts, words, said, apart, given-back}
+use Rattle.exploration.specs.declared.Session.{Session}
+use Rattle.exploration.proofs.Session as T
+use Rattle.exploration.proofs.Session.Laws as T′
+use Rattle.calls.proofs.Answer as N
+use Rattle.calls.proofs.Answer.Laws as N′
+use Rattle.calls.proofs.Turn as S
+use Rattle.calls.proofs.Turn.Laws as S′
+use Rattle.calls.proofs.reject as core
+use Rattle.calls.proofs.reject.Symbol as core-def
+use Rattle.calls.proofs.reject.Symbol.{name as #core}
+use Rattle.calls.proofs.reject.Met as core-thm
+use Rattle.zundrafl.proofs.c.zundrafl_reject.Key.{name as #own}
+use Rattle.zundrafl.proofs.c.zundrafl_reject as f
+use Rattle.zundrafl.proofs.c.zundrafl_reject.Statement as stated
+use Rattle.zundrafl.proofs.c.zundrafl_reject.Code as code
+
+-- the arguments' machine values
+abbrev spells : (κs : Lfts 5) → Spells (typesAt (f.signature .params) κs)
+spells κs = (ptr-vals, (slice-vals, (slice-vals, (slice-vals, (uint-vals w64, (uint-vals w64, (ptr-vals, tt)))))))
+
+module _ {M : Type 1} (𝓤 : URA M) (H : Heap 𝓤) (A : Atoms 𝓤) (at-mem : Memory → SProp 𝓤) (run : Routine → Fun 𝓤) where
+  abbrev Core : Contract 𝓤
+  Core = tripleOf 𝓤 H A core.signature (core.spec 𝓤 H A at-mem run)
+
+module _ {M : Type 1} (𝓤 : URA M) (H : Heap 𝓤) (A : Atoms 𝓤) (W : Given 𝓤 H A) (at-mem : Memory → SProp 𝓤) (run : Routine → Fun 𝓤)
+    (κs : Lfts 5) (qs : Shares 5) (a : Args f.signature κs) where
+  abbrev h : Session
+  h = a .0 .now
+
+  abbrev at : Vals f.signature κs
+  at = valss (typesAt (f.signature .params) κs) (spells κs) a
+
+  abbrev Post : Val → SProp 𝓤
+  Post = walkOf 𝓤 H A f.ended (all-told (f.signature .params) (f.ended .kept)) (f.clauses 𝓤 H A at-mem run) .post ((κs, qs, tt, a, at), tt)
+
+  -- the core is called on the record, with the words as they were lent
+  abbrev to : Core 𝓤 H A at-mem run .Ghost
+  to = (
+    (
+      firsts 3 (κs .1),
+      shares 3 (qs .1),
+      tt,
+      (h, (a .1 .0, (a .1 .1 .0, (a .1 .1 .1 .0, (a .1 .1 .1 .1 .0, (a .1 .1 .1 .1 .1 .0, tt)))))),
+      (LL.vals T.the-type T′.the-laws h, (at .1 .0, (at .1 .1 .0, (at .1 .1 .1 .0, (at .1 .1 .1 .1 .0, (at .1 .1 .1 .1 .1 .0, tt)))))),
+    ),
+    tt,
+  )
+
+  module _ (C : Calls 𝓤 H) (Λ : Loops 𝓤 H) (fm : FmC 𝓤 H (W .laws) C) (known : Triple 𝓤 (C #core) (Core 𝓤 H A at-mem run)) where
+    walk : Are (typesAt (f.signature .params) κs) (Ises (typesAt (f.signature .params) κs)) a at
+        → ent 𝓤 (onEntry 𝓤 H A f.signature κs qs a at) (WpFn 𝓤 H C Λ code.function (flat (typesAt (f.signature .params) κs) at) Post)
+    walk are =
+        qed W ((‵ (flft (κs .0) (qs .0)) ⊛ raw (toks 𝓤 A 4 (κs .1) (qs .1))) ∷ ‵ (owns (typesAt (f.signature .params) κs) a at) ∷ []) ∵
+        apart ! T.the-row N.the-row (named 4) 3 (κs .1) (qs .1) (words (parts (typesAt (core.signature .params) (to .0 .0)) (to .0 .3) (to .0 .4)))
+        (a .0) (a .1 .1 .1 .1 .1 .1 .0) $
+        -- [the record's obs, borrow, token; what the words own; the words' tokens; the answer's obs, borrow, token]
+        enter ! C Λ code.function _ _ $
+        alloc1 ! (λ l₀. alloc1 ! (λ l₁. alloc1 ! (λ l₂. alloc1 ! (λ l₃. alloc1 ! (λ l₄. alloc1 ! (λ l₅. alloc1 ! (λ l₆. alloc1 ! (λ l₇.
+        alloc1 ! (λ l₈. alloc1 ! (λ l₉. alloc1 ! (λ l₁₀. alloc1 ! (λ l₁₁. alloc0 ! $ params1 ! $
+        pass1 ! (init ! 20 refl (tt, tt)) $
+        pass1 ! (init ! 18 refl (mut-slice-lawful 𝓤 H A W (named 1) (κs .1 .0) u64 .typed (a .1 .0) _ (are .1 .0) .0)) $
+        pass1 ! (init ! 16 refl (shr-slice-lawful 𝓤 H A W (named 2) (κs .1 .1 .0) u64 .typed (a .1 .1 .0) _ (are .1 .1 .0) .0)) $
+        pass1 ! (init ! 14 refl (shr-slice-lawful 𝓤 H A W (named 3) (κs .1 .1 .1 .0) u64 .typed (a .1 .1 .1 .0) _ (are .1 .1 .1 .0) .0)) $
+        pass1 ! (init ! 12 refl (uint-lawful 𝓤 H A W w64 .typed (a .1 .1 .1 .1 .0) _ (are .1 .1 .1 .1 .0) .0)) $
+        pass1 ! (init ! 10 refl (uint-lawful 𝓤 H A W w64 .typed (a .1 .1 .1 .1 .1 .0) _ (are .1 .1 .1 .1 .1 .0) .0)) $
+        pass1 ! (init ! 8 refl (tt, tt)) $ pass0 ! $
+        move ! (24 ∷ 25 ∷ 26 ∷ []) $ loads ! T.the-type T′.the-laws (a .0) 20 6 refl refl refl (λ was.
+        -- [the record's obs, borrow, token; _11 to _1; room for _0; what the words own; the words' tokens; the answer's obs, borrow, token]
+        -- words are lent on: their pointer and their count, put together again
+        sets ! (addr ! (from ! (fld ! refl (hop ! (look-in ! 21 (sub ! 0 refl (whole !))) (stop !))))) 5 refl (tt, tt) $
+        sets ! (agg ! (and-then ! (copied ! 5 refl) (and-then ! (field-of ! refl (look-in ! 21 (sub ! 1 refl (whole !)))) (no-more !)))) 3 refl
+        (mut-slice-lawful 𝓤 H A W erased (κs .1 .0) u64 .typed (a .1 .0) _ (are .1 .0) .0) $
+        owned ! T.the-row (Is T.the-row) (LL.makes T.the-type T′.the-plain 𝓤 H A) h _ was $
+        move ! (0 ∷ 28 ∷ 29 ∷ []) $ fjoin ! $ called ! fm core.ended (core.clauses 𝓤 H A at-mem run) known to (id⊢ 𝓤 _)
+        (and-then ! (copied ! 10 refl) (and-then ! (copied ! 4 refl) (and-then ! (copied ! 20 refl) (and-then ! (copied ! 18 refl)
+        (and-then ! (copied ! 16 refl) (and-then ! (copied ! 14 refl) (no-more !))))))) (λ v r ws.
+        -- [the result; the words' tokens; what is said of them; what the core ensures; the record's obs, borrow, token; the locals; the answer's]
+        learnt ! S.the-type S′.the-laws r v (λ typed spelled made.
+        land ! (from ! (stop !)) (init ! 11 refl (typed .0)) $ rewrite ! 11 (λ (w : Val). ‵ (fat fullShare S′.mir l₉ 0 w)) spelled refl $ drop ! $
+        move ! (3 ∷ 4 ∷ 5 ∷ []) $
+        stores ! T.the-type T′.the-laws T′.the-plain (a .0) (r .session) (made .1 .0) 23 7 refl refl (sub ! 1 refl (whole !)) $
+        move ! (30 ∷ 31 ∷ 32 ∷ []) $
+        stores ! N.the-type N′.the-laws N′.the-plain (a .1 .1 .1 .1 .1 .1 .0) (r .answer) (made .0) 14 10 refl refl (sub ! 0 refl (whole !)) $
+        -- [the answer's obs, borrow, token; the record's; the words' tokens; what is said of them; what the core ensures; the locals]
+        sets ! (of-opd ! (unit-lit !)) 31 refl (tt, tt) $ returns ! (look ! 31 refl) $
+        move ! (31 ∷ 32 ∷ 29 ∷ 30 ∷ 27 ∷ 28 ∷ 25 ∷ 26 ∷ 23 ∷ 24 ∷ 21 ∷ 22 ∷ 19 ∷ 20 ∷ 17 ∷ 18 ∷ 15 ∷ 16 ∷ 13 ∷ 14 ∷ 11 ∷ 12 ∷ 9 ∷ 10 ∷ []) $
+        freed ! $ freed ! $ freed ! $ freed ! $ freed ! $ freed ! $ freed ! $ freed ! $ freed ! $ freed ! $ freed ! $ freed ! $ free0 ! $
+        suffices ! _ (ends-at 𝓤 H A f.ended (all-told (f.signature .params) (f.ended .kept)) (f.clauses 𝓤 H A at-mem run) W
+        ((κs, qs, tt, a, at), tt) _ tt
+        (r .session, (ws .1 .0, (ws .1 .1 .0, (ws .1 .1 .1 .0, (ws .1 .1 .1 .1 .0, (ws .1 .1 .1 .1 .1 .0, (r .answer, tt)))))))
+        (tt, (tt, (tt, (tt, (tt, (tt, (tt, tt)))))))) $
+        move ! (3 ∷ 4 ∷ 5 ∷ []) $
+        given-back ! 3 (κs .1) (qs .1) (words (said (to .0 .0) (core.signature .params) (core.ended .kept) (to .0 .3) ws)))))))))))))))))
+
+pub zundrafl-reject-spec : {M : Type 1} → stated.statement M
+unfolding code.routine tablesOf
+zundrafl-reject-spec 𝓤 H 𝓜 𝓖 𝓡 =
+    let 𝓣 = tablesOf 𝓤 H 𝓜 (tables 𝓤 H 𝓜 𝓡 code.env) in
+    let W = givenOf 𝓤 H 𝓜 𝓖 in
+    entered 𝓤 H (tripleOf 𝓤 H (𝓖 .A) f.signature (f.spec 𝓤 H (𝓖 .A) (𝓜 .mem) (𝓡 .run)))
+    (tables 𝓤 H 𝓜 𝓡 code.env .C) (tables 𝓤 H 𝓜 𝓡 code.env .Λ) #own code.function (code.unfolded 𝓤 H 𝓜 𝓡)
+    (meets 𝓤 H (𝓖 .A) W f.ended (f.clauses 𝓤 H (𝓖 .A) (𝓜 .mem) (𝓡 .run)) code.function 𝓣
+    spells
+    (λ κs. (
+      mut-tells (named 0) (κs .0) T.the-row,
+      (
+        mut-slice-tells (named 1) (κs .1 .0) u64,
+        (
+          shr-slice-tells (named 2) (κs .1 .1 .0) u64,
+          (
+            shr-slice-tells (named 3) (κs .1 .1 .1 .0) u64,
+            (uint-tells w64, (uint-tells w64, (mut-tells (named 4) (κs .1 .1 .1 .1 .0) N.the-row, tt))),
+          ),
+        ),
+      ),
+    ))
+    (λ κs qs bounds a g are. walk 𝓤 H (𝓖 .A) W (𝓜 .mem) (𝓡 .run) κs qs a (𝓣 .C) (𝓣 .Λ) (fmOf 𝓤 H (W .laws) 𝓣)
+    (cited 𝓤 H (Core 𝓤 H (𝓖 .A) (𝓜 .mem) (𝓡 .run)) 𝓜 𝓡 code.env #core core-def.routine code.calls-calls·reject
+    (core-thm.met 𝓤 H 𝓜 𝓖 𝓡)) are))
