@@ -5,8 +5,8 @@
  * background are lent to every call as words and their number; the record says how many rows and list rules are in use.
  *
  * Every call writes *answer and touches nothing else that it is not said to write. A refusal has its number as the code and its
- * place as the first value; it changes neither record nor words. Every pointer must be valid for its length, also where that is 0,
- * and no two of those that a call may write may overlap; nothing else is asked of the caller.
+ * place as the first value; it changes neither record nor words. Every pointer must be aligned, not null and valid for its length,
+ * also where that is 0, and what a call may write must overlap nothing else that it is lent; nothing else is asked of the caller.
  */
 #ifndef ZUNDRAFL_H
 #define ZUNDRAFL_H

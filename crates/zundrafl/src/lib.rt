@@ -4,9 +4,12 @@ ghost use Rattle.implication.specs.Closure.{implication};
 ghost use Rattle.context.specs.Objects.{object};
 ghost use Rattle.machine.specs.Machine.{step as stepping, accept as accepting, reject as rejecting, follow, refute, perform};
 ghost use lib.ListN.{length};
+ghost use Rattle.calls.specs.Codes.{coded};
+ghost use Rattle.burmeister.specs.Layout.{opening};
 ghost use Rattle.burmeister.specs.Names.{objectName, attributeName};
 ghost use Rattle.burmeister.specs.Marks.{reading, rowWords};
-ghost use Rattle.zundrafl.specs.Views.{layoutIn};
+ghost use Rattle.table_calls.specs.Tables.{codeOfOpened, layoutAfter};
+ghost use Rattle.zundrafl.specs.Views.{layoutIn, noLayout};
 ghost use Rattle.exploration.specs.Session.{stateOf, stepAnswer, replyAnswer, followingAnswer, refutingAnswer, listAfter, rowsAfter};
 
 // The same and the table reader for C: each answer in three words, put where the caller says.
@@ -108,6 +111,45 @@ pub struct Table<'a> {
     object_names: usize,
     attribute_names: usize,
     marks: usize,
+}
+
+// The layout of no file.
+fn nothing() -> burmeister::Layout
+    ensures { λ r. ⌜ r ≡ noLayout ⌝ }
+{
+    burmeister::Layout {
+        objects: 0,
+        attributes: 0,
+        object_names: 0,
+        attribute_names: 0,
+        marks: 0,
+    }
+}
+
+// What opening a table file finds: its layout, or that of no file where it is refused.
+fn opened(file: &[u8]) -> table_calls::Found
+    ensures answer { λ r. ⌜ coded (r .answer .code) (r .answer .first) (r .answer .second) ≡ codeOfOpened (opening (now (file .entry))) ⌝ }
+    ensures layout { λ r. ⌜ r .layout ≡ layoutAfter (opening (now (file .entry))) noLayout ⌝ }
+{
+    table_calls::open(nothing(), file)
+}
+
+// Opens a table file: its view; the answer is put where the caller says. The view of a file that is refused has no rows and no
+// attributes, and so no names.
+pub fn open<'a>(file: &'a [u8], answer: &mut calls::Answer) -> Table<'a>
+    ensures answer { λ r. ⌜ coded (now (answer .exit) .code) (now (answer .exit) .first) (now (answer .exit) .second) ≡ codeOfOpened (opening (now (file .entry))) ⌝ }
+    ensures view { λ r. ⌜ (r .file ≡ file .entry) × (layoutIn r ≡ layoutAfter (opening (now (file .entry))) noLayout) ⌝ }
+{
+    let found = opened(file);
+    *answer = found.answer;
+    Table {
+        file,
+        objects: found.layout.objects,
+        attributes: found.layout.attributes,
+        object_names: found.layout.object_names,
+        attribute_names: found.layout.attribute_names,
+        marks: found.layout.marks,
+    }
 }
 
 // The view of a file with a layout.

@@ -42,6 +42,7 @@ pub record Concluded (n : ℕ) (table : List Object) (text : List ℕ) : Type 0 
   pub changes : ℕ
   pub whole : text ≡ before ++ (listLines n list ++ endLine (length list) (length rows) changes)
   pub filed : All (λ o. List·Memᴰ o table) rows
+  pub over : All (OverM n) list
   pub decides : Decides n table list
   pub shortest : (l : List (Implication ℕ)) → All (OverM n) l → Decides n table l → length list ≤ length l
 
@@ -94,6 +95,7 @@ module _ (table : List Object) (s : State) (changes : ℕ) (a : Along table s ch
       changes = changes;
       whole = refl;
       filed = a .rows;
+      over = subst (λ l. All (OverM (s .n)) l) in-list (a .reached .over);
       decides = list-decides;
       shortest = list-shortest;
     }
@@ -109,6 +111,7 @@ behind n table lent line text (inl c) = inl (record {
   changes = c .changes;
   whole = ap (λ t. line ++ t) (c .whole) ∙ sym (append-assoc line (c .before) _);
   filed = c .filed;
+  over = c .over;
   decides = c .decides;
   shortest = c .shortest;
 })
