@@ -10,9 +10,7 @@ use libc::STDOUT_FILENO;
 fn answer(file: &[u8], out: &mut [u8]) -> usize
     ensures { λ r. ⌜ (163840 ≤ length (now (out .entry)) → take r (now (out .exit)) ≡ output (now (file .entry))) ⌝ }
 {
-    let mut rows = [0u64; 1024];
-    let mut list = [0u64; 512];
-    interview::hold(file, &mut rows, &mut list, out, STDOUT_FILENO)
+    interview::hold(file, 512, 256, out, STDOUT_FILENO)
 }
 
 fn main() {

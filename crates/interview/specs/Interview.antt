@@ -2,7 +2,7 @@
 -- terms of the definition (01, "The program").
 use mathlib.Core.Bool.{Bool, true, false}
 use mathlib.Core.List.{List, []}
-use Prim.Native.Nat.{ℕ, _*_, _≤_}
+use Prim.Native.Nat.{ℕ, _*_, _/_, _≤_, min}
 use lib.ListN.{length}
 use Rattle.context.specs.Objects.{Object}
 use Rattle.machine.specs.Checks.{Lent, State}
@@ -20,6 +20,14 @@ holding i rows list = stateOf (record { n = i .n; rows = i .rows; rules = i .rul
 -- the lent lengths, with no background
 abbrev pub lentOf : List ℕ → List ℕ → Lent
 lentOf rows list = record { rows = length rows; list = length list; background = 0 }
+
+-- places for so many rows and rules, as far as there are words for them
+abbrev pub placesOf : ℕ → ℕ → ℕ → ℕ → Lent
+placesOf rows rules row-words list-words = record { rows = min rows (row-words / 2) * 2; list = min rules (list-words / 2) * 2; background = 0 }
+
+-- the words are those of a whole session: 512 rows and 256 rules
+abbrev pub placesFor : ℕ → ℕ → Lent
+placesFor rows rules = placesOf rows rules 1024 512
 
 -- a word has an attribute for each, and the lent words have what is in use
 pub record Fits (i : Interview) (rows list : List ℕ) : Type 0 where

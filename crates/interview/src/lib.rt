@@ -1,7 +1,7 @@
 // The interview of a complete table (01: the program): beats below the checks, each line written when it is known.
 ghost use mathlib.Core.Path.{_≡_};
 ghost use mathlib.Core.List.{[]};
-ghost use Prim.Native.Nat.{_*_, _<_, _≤_};
+ghost use Prim.Native.Nat.{_*_, _<_, _≤_, min};
 ghost use lib.ListN.{length, take};
 ghost use Rattle.implication.specs.Closure.{implication};
 ghost use Rattle.context.specs.Objects.{object, objectsOf};
@@ -16,7 +16,7 @@ ghost use Rattle.transcript.specs.Text.{refusalLine};
 ghost use Rattle.transcript.specs.Output.{closing, interviewed, tableOf, outputWith};
 ghost use Rattle.transcript.specs.Core.{counted, coreNo, coreYes, coreReply, coreBeat};
 ghost use Rattle.transcript.specs.Core.Along.{Along};
-ghost use Rattle.interview.specs.Interview.{holding, Fits, lineOf, beatOf, remaining, lentOf};
+ghost use Rattle.interview.specs.Interview.{holding, Fits, lineOf, beatOf, remaining, lentOf, placesOf, placesFor};
 
 // Where an interview is: the number of attributes, the rows and rules in use, the current set, and how often it has changed.
 struct Interview {
@@ -326,9 +326,8 @@ fn over(
     )
 }
 
-// The program's whole output for a table file, in a lent buffer and, line by line as it becomes known, on the descriptor fd. The
-// words lent for rows and rules are the interview's own. A buffer of 163,840 bytes holds every output whole.
-pub fn hold(file: &[u8], rows: &mut [u64], list: &mut [u64], out: &mut [u8], fd: i32) -> usize
+// The output for a table file where these words are lent for rows and rules.
+fn hold_in(file: &[u8], rows: &mut [u64], list: &mut [u64], out: &mut [u8], fd: i32) -> usize
     ensures page { λ r. ⌜ page (now (out .exit)) r ≡ text (page (now (out .entry)) 0) (outputWith (lentOf (now (rows .entry)) (now (list .entry))) (now (file .entry))) ⌝ }
     ensures whole { λ r. ⌜ (163840 ≤ length (now (out .entry)) → take r (now (out .exit)) ≡ outputWith (lentOf (now (rows .entry)) (now (list .entry))) (now (file .entry))) ⌝ }
 {
@@ -341,4 +340,46 @@ pub fn hold(file: &[u8], rows: &mut [u64], list: &mut [u64], out: &mut [u8], fd:
         }
         burmeister::Opened::Table(layout) => over(file, layout, rows, list, out, fd),
     }
+}
+
+// The smaller of two numbers.
+fn smaller(a: usize, b: usize) -> usize
+    ensures { λ r. ⌜ r ≡ min a b ⌝ }
+{
+    if a < b { a } else { b }
+}
+
+// The output where only this many places of the words are lent.
+fn hold_among(
+    file: &[u8],
+    row_places: usize,
+    rule_places: usize,
+    rows: &mut [u64],
+    list: &mut [u64],
+    out: &mut [u8],
+    fd: i32,
+) -> usize
+    ensures page { λ r. ⌜ page (now (out .exit)) r ≡ text (page (now (out .entry)) 0) (outputWith (placesOf «row_places» «rule_places» (length (now (rows .entry))) (length (now (list .entry)))) (now (file .entry))) ⌝ }
+    ensures whole { λ r. ⌜ (163840 ≤ length (now (out .entry)) → take r (now (out .exit)) ≡ outputWith (placesOf «row_places» «rule_places» (length (now (rows .entry))) (length (now (list .entry)))) (now (file .entry))) ⌝ }
+{
+    let row_words = smaller(row_places, rows.len() / 2) * 2;
+    let list_words = smaller(rule_places, list.len() / 2) * 2;
+    hold_in(
+        file,
+        &mut rows[..row_words],
+        &mut list[..list_words],
+        out,
+        fd,
+    )
+}
+
+// The program's whole output for a table file, in a lent buffer and, line by line as it becomes known, on the descriptor fd, with
+// this many places for rows (of 512) and rules (of 256). A buffer of 163,840 bytes holds every output whole.
+pub fn hold(file: &[u8], row_places: usize, rule_places: usize, out: &mut [u8], fd: i32) -> usize
+    ensures page { λ r. ⌜ page (now (out .exit)) r ≡ text (page (now (out .entry)) 0) (outputWith (placesFor «row_places» «rule_places») (now (file .entry))) ⌝ }
+    ensures whole { λ r. ⌜ (163840 ≤ length (now (out .entry)) → take r (now (out .exit)) ≡ outputWith (placesFor «row_places» «rule_places») (now (file .entry))) ⌝ }
+{
+    let mut rows = [0u64; 1024];
+    let mut list = [0u64; 512];
+    hold_among(file, row_places, rule_places, &mut rows, &mut list, out, fd)
 }

@@ -3,17 +3,13 @@
 use libc::STDOUT_FILENO;
 
 fn hold(file: &[u8]) {
-    let mut rows = [0u64; 1024];
-    let mut list = [0u64; 512];
     let mut out = [0u8; 163840];
-    interview::hold(file, &mut rows, &mut list, &mut out, STDOUT_FILENO);
+    interview::hold(file, 512, 256, &mut out, STDOUT_FILENO);
 }
 
 fn hold_few(file: &[u8]) {
-    let mut rows = [0u64; 4];
-    let mut list = [0u64; 2];
     let mut out = [0u8; 163840];
-    interview::hold(file, &mut rows, &mut list, &mut out, STDOUT_FILENO);
+    interview::hold(file, 2, 1, &mut out, STDOUT_FILENO);
 }
 
 fn hold_path(path: &[u8]) {

@@ -5,6 +5,7 @@ pub mod Calls
 pub mod Tools
 pub mod Opening
 pub mod Spanning
+pub mod Lending
 pub mod Asking
 pub mod Viewed
 pub mod Named

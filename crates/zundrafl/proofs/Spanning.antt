@@ -10,7 +10,7 @@ use denote.Memory.{pointee}
 use denote.Slice.{sliceTy}
 use denote.Triple.Clauses.{Clauses, Lasts, atExit, closing}
 use denote.Triple.Spec.{Meets}
-use Rattle.zundrafl.proofs.Tools.{refl, [], _∷_, URA, fullShare, named, w64, Val, SProp, ent, flft, fat, Heap, Calls, Loops, WpFn, Atoms, Lfts, Shares, toks, Given, ‵, raw, _⊛_, _$_, _∵_, !, qed, move, drop, rewrite, fjoin, suffices, look, init, stop, from, of-opd, unit-lit, and-then, no-more, land, returns, enter, alloc1, alloc0, params1, pass1, pass0, free0, whole, sub, FmC, fmOf, owns, flat, Is, Are, Ises, Spells, valss, uint-vals, uint-tells, uint-lawful, u8, ptr-vals, mut-tells, slice-vals, shr-slice-tells, shr-slice-lawful, typesAt, owned, Triple, Args, Vals, onEntry, tripleOf, walkOf, ends-at, all-told, meets, called, learnt, copied, sets, freed, loads, stores, firsts, shares, parts, words, said, apart, given-back}
+use Rattle.zundrafl.proofs.Tools.{refl, [], _∷_, URA, fullShare, named, w64, Val, ent, flft, fat, Heap, Calls, Loops, WpFn, Atoms, Lfts, Shares, toks, Given, ‵, raw, _⊛_, _$_, _∵_, !, qed, move, drop, rewrite, fjoin, suffices, look, init, stop, from, of-opd, unit-lit, and-then, no-more, land, returns, enter, alloc1, alloc0, params1, pass1, pass0, free0, whole, sub, FmC, fmOf, owns, Is, Spells, valss, uint-vals, uint-tells, uint-lawful, u8, ptr-vals, mut-tells, slice-vals, shr-slice-tells, shr-slice-lawful, typesAt, owned, Triple, Args, Vals, ends-at, all-told, Agreed, Walk, meets, called, learnt, copied, sets, freed, loads, stores, firsts, shares, parts, words, said, apart, given-back}
 use Rattle.burmeister.specs.declared.Layout.{Layout}
 use Rattle.burmeister.proofs.Layout as T
 use Rattle.burmeister.proofs.Layout.Laws as T′
@@ -53,11 +53,8 @@ module _ {M : Type 1} (𝓤 : URA M) (H : Heap 𝓤) (A : Atoms 𝓤) (W : Given
     abbrev at : Vals f.signature κs
     at = valss (typesAt (f.signature .params) κs) (spells κs) a
 
-    abbrev Post : Val → SProp 𝓤
-    Post = walkOf 𝓤 H A f.ended (all-told (f.signature .params) (f.ended .kept)) c .post ((κs, qs, tt, a, at), g)
-
     -- the core is called on the layout, with the words as they were lent
-    abbrev to : tripleOf 𝓤 H A core.signature (closing 𝓤 H A core.ended k) .Ghost
+    abbrev to : Agreed 𝓤 H A core.ended k .Ghost
     to = (
       (
         firsts 1 (κs .1),
@@ -74,13 +71,12 @@ module _ {M : Type 1} (𝓤 : URA M) (H : Heap 𝓤) (A : Atoms 𝓤) (W : Given
     given r ws = (r .layout, (ws .1 .0, (ws .1 .1 .0, (r .answer, tt))))
 
     module _ (n : Name) (C : Calls 𝓤 H) (Λ : Loops 𝓤 H) (fm : FmC 𝓤 H (W .laws) C)
-        (known : Triple 𝓤 (C n) (tripleOf 𝓤 H A core.signature (closing 𝓤 H A core.ended k)))
+        (known : Triple 𝓤 (C n) (Agreed 𝓤 H A core.ended k))
         (free : ent 𝓤 (emp 𝓤) (k (to .0 .0) (to .0 .3) .requires g′))
         (same : (r : Found) (ws : Lasts core.ended (to .0 .0) (to .0 .3))
         → ent 𝓤 (k (to .0 .0) (to .0 .3) .ensures g′ r (atExit core.ended (to .0 .0) (to .0 .3) ws))
         (c κs a .ensures g tt (atExit f.ended κs a (given r ws)))) where
-      walk : Are (typesAt (f.signature .params) κs) (Ises (typesAt (f.signature .params) κs)) a at
-          → ent 𝓤 (onEntry 𝓤 H A f.signature κs qs a at) (WpFn 𝓤 H C Λ (spanning n) (flat (typesAt (f.signature .params) κs) at) Post)
+      walk : Walk 𝓤 H A f.ended c spells C Λ (spanning n) κs qs tt a g
       walk are =
           qed W ((‵ (flft (κs .0) (qs .0)) ⊛ raw (toks 𝓤 A 2 (κs .1) (qs .1))) ∷ ‵ (owns (typesAt (f.signature .params) κs) a at) ∷ []) ∵
           apart ! T.the-row N.the-row (named 2) 1 (κs .1) (qs .1) (words (parts (typesAt (core.signature .params) (to .0 .0)) (to .0 .3) (to .0 .4)))
@@ -114,7 +110,7 @@ module _ {M : Type 1} (𝓤 : URA M) (H : Heap 𝓤) (A : Atoms 𝓤) (W : Given
           move ! (4 ∷ 5 ∷ 6 ∷ 1 ∷ 2 ∷ 3 ∷ 7 ∷ 8 ∷ 0 ∷ []) $
           given-back ! 1 (κs .1) (qs .1) (words (said (to .0 .0) (core.signature .params) (core.ended .kept) (to .0 .3) ws))))))))))))
 
-  pub spans : (n : Name) (𝓣 : Tables 𝓤 H) → Triple 𝓤 (𝓣 .C n) (tripleOf 𝓤 H A core.signature (closing 𝓤 H A core.ended k))
+  pub spans : (n : Name) (𝓣 : Tables 𝓤 H) → Triple 𝓤 (𝓣 .C n) (Agreed 𝓤 H A core.ended k)
       → (g′ : (κs : Lfts 3) (a : Args f.signature κs) → k (firsts 1 (κs .1)) (passed κs a) .ghost)
       → ((κs : Lfts 3) (a : Args f.signature κs) → ent 𝓤 (emp 𝓤) (k (firsts 1 (κs .1)) (passed κs a) .requires (g′ κs a)))
       → ((κs : Lfts 3) (qs : Shares 3) (a : Args f.signature κs) (g : c κs a .ghost) (r : Found)

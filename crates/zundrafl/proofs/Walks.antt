@@ -1,5 +1,7 @@
 -- What all walks of this crate have in common.
 --     told, all-told   at exit a parameter is had as what the contract says of it, so what a callee says of a last value is passed on as it is
+--     Agreed           a contract, of its signature and clauses
+--     Walk             what a walk shows: from the arguments' machine values, what the contract says of its exit
 --     meets            a walk from the arguments' machine values meets the contract
 --     called           a call: the result, the tokens, what is said of the last values, and what the callee ensures
 --     learnt           what is known of a struct that is owned
@@ -32,7 +34,7 @@ use denote.Steps.{only, peeks}
 use denote.Struct.Declared.{Declared, fields, row}
 use denote.Struct.Laws as LL
 use denote.Struct.Struct.{AreAll}
-use denote.Triple.Statement.{Triple}
+use denote.Triple.Statement.{Contract, Triple}
 use denote.Triple.Call.{calls-at}
 use denote.Triple.Clauses.{Ended, Clauses, Lasts, atExit, lasts, closing}
 use denote.Triple.End.{Kepts}
@@ -47,6 +49,20 @@ abbrev pub all-told : {n : ℕ} (ss : List (Slot n)) (ks : Kepts ss) → Stays s
 all-told [] ks = tt
 all-told (s ∷ ss) ks = (told s (ks .0), all-told ss (ks .1))
 
+module _ {M : Type 1} (𝓤 : URA M) (H : Heap 𝓤) (A : Atoms 𝓤) (E : Ended) (c : Clauses 𝓤 E) where
+  abbrev pub Agreed : Contract 𝓤
+  Agreed = tripleOf 𝓤 H A (E .signature) (closing 𝓤 H A E c)
+
+  abbrev pub Walk : ((κs : Lfts (E .signature .lifetimes)) → Spells (typesAt (E .signature .params) κs)) → Calls 𝓤 H → Loops 𝓤 H → Fn
+      → (κs : Lfts (E .signature .lifetimes)) → Shares (E .signature .lifetimes) → AllOutlive (E .signature .lifetimes) (E .signature .outlives) κs
+      → (a : Args (E .signature) κs) → c κs a .ghost → Type 1
+  Walk sp C Λ f κs qs bounds a g =
+      Are (typesAt (E .signature .params) κs) (Ises (typesAt (E .signature .params) κs)) a (valss (typesAt (E .signature .params) κs) (sp κs) a)
+      → ent 𝓤 (onEntry 𝓤 H A (E .signature) κs qs a (valss (typesAt (E .signature .params) κs) (sp κs) a))
+      (WpFn 𝓤 H C Λ f (flat (typesAt (E .signature .params) κs) (valss (typesAt (E .signature .params) κs) (sp κs) a))
+      (walkOf 𝓤 H A E (all-told (E .signature .params) (E .kept)) c .post
+      ((κs, qs, bounds, a, valss (typesAt (E .signature .params) κs) (sp κs) a), g)))
+
 module _ {M : Type 1} (𝓤 : URA M) (H : Heap 𝓤) (A : Atoms 𝓤) (W : Given 𝓤 H A) where
   goes : (n : ℕ) (ss : List (Slot n)) (ks : Kepts ss) → AllGo 𝓤 H A W n ss ks (all-told ss ks)
   goes n [] ks = tt
@@ -60,10 +76,7 @@ module _ {M : Type 1} (𝓤 : URA M) (H : Heap 𝓤) (A : Atoms 𝓤) (W : Given
         → ((κs : Lfts (E .signature .lifetimes)) → Tellss (typesAt (E .signature .params) κs) (Ises (typesAt (E .signature .params) κs)) (sp κs))
         → ((κs : Lfts (E .signature .lifetimes)) (qs : Shares (E .signature .lifetimes))
         (bounds : AllOutlive (E .signature .lifetimes) (E .signature .outlives) κs) (a : Args (E .signature) κs) (g : c κs a .ghost)
-        → Are (typesAt (E .signature .params) κs) (Ises (typesAt (E .signature .params) κs)) a (valss (typesAt (E .signature .params) κs) (sp κs) a)
-        → ent 𝓤 (onEntry 𝓤 H A (E .signature) κs qs a (valss (typesAt (E .signature .params) κs) (sp κs) a))
-        (WpFn 𝓤 H (𝓣 .C) (𝓣 .Λ) f (flat (typesAt (E .signature .params) κs) (valss (typesAt (E .signature .params) κs) (sp κs) a))
-        (walkOf 𝓤 H A E stays c .post ((κs, qs, bounds, a, valss (typesAt (E .signature .params) κs) (sp κs) a), g))))
+        → Walk 𝓤 H A E c sp (𝓣 .C) (𝓣 .Λ) f κs qs bounds a g)
         → Meets 𝓤 H A (E .signature) (WpFn 𝓤 H (𝓣 .C) (𝓣 .Λ) f) (closing 𝓤 H A E c)
     meets f 𝓣 sp tl k =
         walk-meets 𝓤 H A E stays W (goes (E .signature .lifetimes) (E .signature .params) (E .kept)) c (WpFn 𝓤 H (𝓣 .C) (𝓣 .Λ) f)

@@ -4,7 +4,7 @@
 use mathlib.Core.Path.{_≡_, refl, sym, ap, _∙_, subst}
 use mathlib.Core.Logic.{_⊎_, inl, inr, _↔_}
 use mathlib.Core.Bool.{Bool, true, false}
-use mathlib.Core.List.{List, [], _++_, List·Memᴰ, append-assoc}
+use mathlib.Core.List.{List, [], _++_, append-assoc}
 use Prim.Native.Nat.{ℕ, zero, suc, _+_, _/_, _≤_, _<_}
 use native.Mathlib.Omega.{arith}
 use lib.ListN.{length, getD}
@@ -15,7 +15,7 @@ use Rattle.theory.specs.Implications.{Implication}
 use Rattle.attribute_set.specs.Sets.{full}
 use Rattle.implication.specs.Closure.{follows}
 use Rattle.context.specs.Objects.{Object, object, firstRefuting}
-use Rattle.context.specs.Tables.{Table, AgreesImplication}
+use Rattle.context.specs.Tables.{Table}
 use Rattle.context.specs.Tables.Laws.{follows-tables}
 use Rattle.machine.specs.Checks.{Lent, State, force, question}
 use Rattle.machine.specs.Machine.{step, performStep, performed, checksOf, opening, opened, afterNo, afterYes}
@@ -26,33 +26,10 @@ use Rattle.transcript.specs.Text.{yesLine, noLine, listLines, endLine, r
 use Rattle.transcript.specs.Output.{Beat, more, last, beat, beats, enough}
 use Rattle.transcript.specs.Output.Ends.{measure, measure-enough, beat-falls}
 use Rattle.transcript.specs.Core.{counted, full-up, coreNo, coreYes, coreReply, coreBeat}
+use Rattle.transcript.specs.Ending.{Decides, Concluded, Full}
 use Rattle.transcript.specs.Core.Along.{Along, own-row, agrees-force, session-passes}
 use Rattle.transcript.specs.Core.Beats.{Refuting, row-refutes, rows-fewer, core-last, core-moved, core-asked, core-beat}
 use Rattle.transcript.specs.Core.Kept.{core-kept, opened-along}
-
--- just the implications that hold in the table follow from the list
-abbrev pub Decides : ℕ → List Object → List (Implication ℕ) → Type 0
-Decides n table l = (r : Implication ℕ) → OverM n r → (follows l r ≡ true) ↔ AgreesImplication table r
-
--- the output ends in the L lines and the END line of a list that is decided and shortest for the table
-pub record Concluded (n : ℕ) (table : List Object) (text : List ℕ) : Type 0 where
-  pub before : List ℕ
-  pub list : List (Implication ℕ)
-  pub rows : List Object
-  pub changes : ℕ
-  pub whole : text ≡ before ++ (listLines n list ++ endLine (length list) (length rows) changes)
-  pub filed : All (λ o. List·Memᴰ o table) rows
-  pub over : All (OverM n) list
-  pub decides : Decides n table list
-  pub shortest : (l : List (Implication ℕ)) → All (OverM n) l → Decides n table l → length list ≤ length l
-
--- the output ends in the refusal of a reply for which there is no place, its Q line before it
-pub record Full (n : ℕ) (text : List ℕ) : Type 0 where
-  pub before : List ℕ
-  pub question : Implication ℕ
-  pub reply : List ℕ
-  pub replies : (reply ≡ yesLine n question) ⊎ ((row : ℕ) × (reply ≡ noLine n question row))
-  pub whole : text ≡ before ++ (reply ++ refusalLine full-up)
 
 -- the same, and the reply is a yes, or the table has more rows than there are places lent for them
 pub record Refused (n : ℕ) (table : List Object) (lent : Lent) (text : List ℕ) : Type 0 where

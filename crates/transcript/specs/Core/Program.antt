@@ -29,9 +29,10 @@ use Rattle.burmeister.specs.declared.Opened.{Opened}
 use Rattle.burmeister.specs.declared.Opened.the-variants.{Table, Refused}
 use Rattle.transcript.specs.Text.{refusalLine}
 use Rattle.transcript.specs.Output.{beats, enough, tableOf, interviewed, written, outputWith, places, output}
+use Rattle.transcript.specs.Ending.{Concluded, Full, ListFull}
 use Rattle.transcript.specs.Core.Kept.{opened-along}
-use Rattle.transcript.specs.Core.Conclusion.{Concluded, Full, conclusion}
-use Rattle.transcript.specs.Core.Rows.{ListFull, rows-suffice}
+use Rattle.transcript.specs.Core.Conclusion.{conclusion}
+use Rattle.transcript.specs.Core.Rows.{rows-suffice}
 use Rattle.transcript.specs.Core.Size.{refusal-length, size}
 
 pub program-refuses : (lent : Lent) (file : List ℕ) (r : Refusal) → completeOf file (layout.opening file) ≡ Refused r

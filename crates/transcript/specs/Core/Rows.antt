@@ -9,7 +9,6 @@ use mathlib.Core.List.{List, [], _++_}
 use Prim.Native.Nat.{ℕ, _/_, _≤_, _<_}
 use native.Mathlib.Omega.{arith}
 use lib.ListN.{length}
-use Rattle.theory.specs.Implications.{Implication}
 use Rattle.context.specs.Objects.{Object}
 use Rattle.context.specs.Tables.{Table}
 use Rattle.machine.specs.Checks.{Lent, State}
@@ -17,13 +16,8 @@ use Rattle.machine.specs.Machine.{opening, opened}
 use Rattle.transcript.specs.Text.{yesLine, refusalLine}
 use Rattle.transcript.specs.Output.{beats, enough}
 use Rattle.transcript.specs.Core.{full-up}
-use Rattle.transcript.specs.Core.Conclusion.{Concluded, Full, Ends, ends}
-
--- the output ends in the refusal of a yes for which there is no place, its Q line before it
-pub record ListFull (n : ℕ) (text : List ℕ) : Type 0 where
-  pub before : List ℕ
-  pub question : Implication ℕ
-  pub whole : text ≡ before ++ (yesLine n question ++ refusalLine full-up)
+use Rattle.transcript.specs.Ending.{Concluded, Full, ListFull}
+use Rattle.transcript.specs.Core.Conclusion.{Ends, ends}
 
 -- a refused yes
 yes-full : (n : ℕ) (text : List ℕ) (f : Full n text) → f .reply ≡ yesLine n (f .question) → ListFull n text

@@ -1,7 +1,7 @@
 -- The layout is read, the coded reading is called with it and the rows lent on, and what it gives back is stored: a walk of the MIR.
 use contract.Running.{givenOf, tables, tablesOf}
 use denote.Struct.Laws as LL
-use Rattle.zundrafl.proofs.Tools.{refl, [], _∷_, URA, fullShare, erased, named, Val, SProp, ent, id⊢, flft, fat, Memory, Routine, Heap, Calls, Loops, WpFn, Atoms, Lfts, Shares, toks, Fun, Given, ‵, raw, _⊛_, _$_, _∵_, !, qed, move, drop, rewrite, fjoin, suffices, look, init, stop, hop, fld, from, addr, of-opd, unit-lit, and-then, no-more, land, returns, enter, alloc1, alloc0, params1, pass1, pass0, free0, agg, whole, sub, look-in, FmC, fmOf, owns, flat, Is, Are, Ises, Spells, valss, u64, u8, ptr-vals, mut-tells, slice-vals, mut-slice-tells, mut-slice-lawful, shr-slice-tells, shr-slice-lawful, typesAt, owned, Contract, Triple, Args, Vals, onEntry, tripleOf, entered, cited, walkOf, ends-at, all-told, meets, called, learnt, copied, field-of, sets, freed, loads, stores, firsts, shares, parts, words, said, apart, given-back}
+use Rattle.zundrafl.proofs.Tools.{refl, [], _∷_, URA, fullShare, erased, named, Val, SProp, id⊢, flft, fat, Memory, Routine, Heap, Calls, Loops, Atoms, Lfts, Shares, toks, Fun, Given, ‵, raw, _⊛_, _$_, _∵_, !, qed, move, drop, rewrite, fjoin, suffices, look, init, stop, hop, fld, from, addr, of-opd, unit-lit, and-then, no-more, land, returns, enter, alloc1, alloc0, params1, pass1, pass0, free0, agg, whole, sub, look-in, FmC, fmOf, owns, Is, Spells, valss, u64, u8, ptr-vals, mut-tells, slice-vals, mut-slice-tells, mut-slice-lawful, shr-slice-tells, shr-slice-lawful, typesAt, owned, Triple, Args, Vals, tripleOf, entered, cited, ends-at, all-told, Agreed, Walk, meets, called, learnt, copied, field-of, sets, freed, loads, stores, firsts, shares, parts, words, said, apart, given-back}
 use Rattle.burmeister.specs.declared.Layout.{Layout}
 use Rattle.burmeister.proofs.Layout as T
 use Rattle.burmeister.proofs.Layout.Laws as T′
@@ -22,10 +22,6 @@ use Rattle.zundrafl.proofs.c.zundrafl_read_marks.Code as code
 abbrev spells : (κs : Lfts 4) → Spells (typesAt (f.signature .params) κs)
 spells κs = (ptr-vals, (slice-vals, (slice-vals, (ptr-vals, tt))))
 
-module _ {M : Type 1} (𝓤 : URA M) (H : Heap 𝓤) (A : Atoms 𝓤) (at-mem : Memory → SProp 𝓤) (run : Routine → Fun 𝓤) where
-  abbrev Core : Contract 𝓤
-  Core = tripleOf 𝓤 H A core.signature (core.spec 𝓤 H A at-mem run)
-
 module _ {M : Type 1} (𝓤 : URA M) (H : Heap 𝓤) (A : Atoms 𝓤) (W : Given 𝓤 H A) (at-mem : Memory → SProp 𝓤) (run : Routine → Fun 𝓤)
     (κs : Lfts 4) (qs : Shares 4) (a : Args f.signature κs) where
   abbrev h : Layout
@@ -34,11 +30,8 @@ module _ {M : Type 1} (𝓤 : URA M) (H : Heap 𝓤) (A : Atoms 𝓤) (W : Given
   abbrev at : Vals f.signature κs
   at = valss (typesAt (f.signature .params) κs) (spells κs) a
 
-  abbrev Post : Val → SProp 𝓤
-  Post = walkOf 𝓤 H A f.ended (all-told (f.signature .params) (f.ended .kept)) (f.clauses 𝓤 H A at-mem run) .post ((κs, qs, tt, a, at), tt)
-
   -- the core is called on the layout, with the words as they were lent
-  abbrev to : Core 𝓤 H A at-mem run .Ghost
+  abbrev to : Agreed 𝓤 H A core.ended (core.clauses 𝓤 H A at-mem run) .Ghost
   to = (
     (
       firsts 2 (κs .1),
@@ -50,9 +43,9 @@ module _ {M : Type 1} (𝓤 : URA M) (H : Heap 𝓤) (A : Atoms 𝓤) (W : Given
     tt,
   )
 
-  module _ (C : Calls 𝓤 H) (Λ : Loops 𝓤 H) (fm : FmC 𝓤 H (W .laws) C) (known : Triple 𝓤 (C #core) (Core 𝓤 H A at-mem run)) where
-    walk : Are (typesAt (f.signature .params) κs) (Ises (typesAt (f.signature .params) κs)) a at
-        → ent 𝓤 (onEntry 𝓤 H A f.signature κs qs a at) (WpFn 𝓤 H C Λ code.function (flat (typesAt (f.signature .params) κs) at) Post)
+  module _ (C : Calls 𝓤 H) (Λ : Loops 𝓤 H) (fm : FmC 𝓤 H (W .laws) C)
+      (known : Triple 𝓤 (C #core) (Agreed 𝓤 H A core.ended (core.clauses 𝓤 H A at-mem run))) where
+    walk : Walk 𝓤 H A f.ended (f.clauses 𝓤 H A at-mem run) spells C Λ code.function κs qs tt a tt
     walk are =
         qed W ((‵ (flft (κs .0) (qs .0)) ⊛ raw (toks 𝓤 A 3 (κs .1) (qs .1))) ∷ ‵ (owns (typesAt (f.signature .params) κs) a at) ∷ []) ∵
         apart ! T.the-row N.the-row (named 3) 2 (κs .1) (qs .1) (words (parts (typesAt (core.signature .params) (to .0 .0)) (to .0 .3) (to .0 .4)))
@@ -108,5 +101,5 @@ zundrafl-read-marks-spec 𝓤 H 𝓜 𝓖 𝓡 =
       ),
     ))
     (λ κs qs bounds a g are. walk 𝓤 H (𝓖 .A) W (𝓜 .mem) (𝓡 .run) κs qs a (𝓣 .C) (𝓣 .Λ) (fmOf 𝓤 H (W .laws) 𝓣)
-    (cited 𝓤 H (Core 𝓤 H (𝓖 .A) (𝓜 .mem) (𝓡 .run)) 𝓜 𝓡 code.env #core core-def.routine code.calls-table-calls·read-marks
-    (core-thm.met 𝓤 H 𝓜 𝓖 𝓡)) are))
+    (cited 𝓤 H (Agreed 𝓤 H (𝓖 .A) core.ended (core.clauses 𝓤 H (𝓖 .A) (𝓜 .mem) (𝓡 .run))) 𝓜 𝓡 code.env #core core-def.routine
+    code.calls-table-calls·read-marks (core-thm.met 𝓤 H 𝓜 𝓖 𝓡)) are))

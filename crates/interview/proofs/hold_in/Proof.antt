@@ -6,8 +6,8 @@ use Rattle.transcript.specs.Core.Program.{output-size}
 use Rattle.interview.specs.Interview.{lentOf}
 use Rattle.interview.specs.Interview.Laws.{text-whole, found-output}
 use borrow.Author.Needs.{needs}
-use Rattle.interview.proofs.hold.Statement.{statement}
-use Rattle.interview.proofs.hold.Tie as tie
+use Rattle.interview.proofs.hold_in.Statement.{statement}
+use Rattle.interview.proofs.hold_in.Tie as tie
 
 open-complete-requires : tie.Need-open-complete-requires
 open-complete-requires c κs = search needs
@@ -52,8 +52,8 @@ returns-2 c =
     ∙ ap (λ l. text (page (a .out .now) 0) l) (found-output lent (a .file .now) _ (sym (c .before .before .before .before .before .before .before .before .before .before .before .before .before .open-complete .ensures) ∙ c .before .before .before .before .before .before .before .before .before .before .before .opened2 .given .1)) in
     (e, λ h. text-whole (a .out .now) _ _ _ e (omega (arith, h, output-size lent (a .file .now))))
 
-pub hold-spec : {M : Type 1} → statement M
-hold-spec =
+pub hold-in-spec : {M : Type 1} → statement M
+hold-in-spec =
     tie.close
     (tie.spec
     open-complete-requires
