@@ -12,7 +12,8 @@ use Rattle.attribute_set.specs.Sets.{inside, full, without}
 use Rattle.implication.specs.Closure.{implication, implicationsOf}
 use Rattle.context.specs.Places.{lowest, anywhere}
 use Rattle.context.specs.Objects.{Object, objectsOf, refutes, markedTwice, contradicts}
-use Rattle.machine.specs.Checks.{State, Refusal, Check, check, firstFailing, force, question, questionStands, strangeObject, sessionChecks}
+use Rattle.session.specs.declared.Refusal.{Refusal}
+use Rattle.machine.specs.Checks.{State, Check, check, firstFailing, force, question, questionStands, strangeObject, sessionChecks}
 use Rattle.machine.specs.Machine.{Answer, finished, moved, asked, taken, followed, refuted, unrefuted, refused, Opening, opened, rejected, opening, accept, reject, perform}
 use Rattle.exploration.specs.declared.Session.{Session}
 use Rattle.exploration.specs.declared.Refusal.{Refusal as Refused}

@@ -6,6 +6,8 @@ use mathlib.Core.Option.{Option, none, some}
 use Prim.Native.Nat.{ℕ, _*_, _/_, _%_}
 use lib.ListN.{length}
 use lib.Dec.{eqb, ltb, leb}
+use Rattle.session.specs.declared.Refusal.{Refusal}
+use Rattle.session.specs.Refusals.{refusal}
 use Rattle.theory.specs.Implications.{Implication}
 use Rattle.attribute_set.specs.Sets.{inside, full, without}
 use Rattle.implication.specs.Closure.{implication, closure}
@@ -59,11 +61,7 @@ question s = implication (s .current) (without (reachOf s) (s .current))
 abbrev pub withQuestion : State → List (Implication ℕ)
 withQuestion s = s .background ++ (s .list ++ (question s ∷ []))
 
--- ---- a refusal
-
-pub record Refusal : Type 0 where
-  pub number : ℕ
-  pub place : ℕ
+-- ---- the checks that fail
 
 -- a check: its number, whether it fails, and the place that a refusal then names
 pub record Check : Type 0 where
@@ -77,7 +75,7 @@ check k b p = record { number = k; fails = b; place = p }
 -- the first check that fails
 unfoldable pub firstFailing : List Check → Option Refusal
 firstFailing [] = none
-firstFailing (c ∷ cs) = elim (c .fails) [ true ↦ some (record { number = c .number; place = c .place }) | false ↦ firstFailing cs ]
+firstFailing (c ∷ cs) = elim (c .fails) [ true ↦ some (refusal (c .number) (c .place)) | false ↦ firstFailing cs ]
 
 -- ---- what the checks test
 

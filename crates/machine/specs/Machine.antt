@@ -11,7 +11,8 @@ use Rattle.attribute_set.specs.Sets.{full}
 use Rattle.implication.specs.Closure.{closure, follows}
 use Rattle.implication.specs.Next.{next}
 use Rattle.context.specs.Objects.{Object, firstRefuting}
-use Rattle.machine.specs.Checks.{Lent, State, Refusal, Check, firstFailing, sessionChecks, yesChecks, noChecks, force, reachOf, question, withQuestion}
+use Rattle.session.specs.declared.Refusal.{Refusal}
+use Rattle.machine.specs.Checks.{Lent, State, Check, firstFailing, sessionChecks, yesChecks, noChecks, force, reachOf, question, withQuestion}
 pub mod Laws
 
 -- the calls of a session, with any arguments

@@ -11,7 +11,8 @@ use Rattle.theory.specs.Implications.{Implication}
 use Rattle.attribute_set.specs.Sets.{full}
 use Rattle.implication.specs.Next.{next}
 use Rattle.context.specs.Objects.{Object, object, firstRefuting}
-use Rattle.machine.specs.Checks.{State, Refusal, force, reachOf, question}
+use Rattle.session.specs.declared.Refusal.{Refusal}
+use Rattle.machine.specs.Checks.{State, force, reachOf, question}
 use Rattle.machine.specs.Machine.{moveTo, afterYes, afterNo}
 use Rattle.transcript.specs.Text.{yesLine, noLine, refusalLine}
 use Rattle.transcript.specs.Output.{Beat, more, last, closing}

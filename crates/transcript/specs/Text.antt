@@ -4,7 +4,7 @@ use Prim.Native.Nat.{ℕ, zero, suc, _+_, _/_, _%_}
 use lib.Dec.{ltb}
 use mathlib.Core.Bool.{true, false}
 use Rattle.theory.specs.Implications.{Implication}
-use Rattle.machine.specs.Checks.{Refusal}
+use Rattle.session.specs.declared.Refusal.{Refusal}
 pub mod Digits
 
 -- the decimal digits of a number, no leading zero, at most k of them

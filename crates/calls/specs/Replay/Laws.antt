@@ -11,7 +11,8 @@ use borrow.Author.Tests.{ne-eqb}
 use Rattle.implication.specs.Pairs.Laws.{length-pairs}
 use Rattle.implication.specs.Closure.{implication}
 use Rattle.context.specs.Objects.{object}
-use Rattle.machine.specs.Checks.{State, Refusal, question}
+use Rattle.session.specs.declared.Refusal.{Refusal}
+use Rattle.machine.specs.Checks.{State, question}
 use Rattle.machine.specs.Machine.{Call, step, accept, reject, follow, refute, Answer, refused, Turn, turn, performed, perform}
 use Rattle.machine.specs.Machine.Laws.{perform-cases, step-cases}
 use Rattle.exploration.specs.Session.{stateOf, putPair}

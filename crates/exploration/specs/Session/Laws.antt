@@ -23,7 +23,8 @@ use Rattle.context.specs.Places.{lowest, anywhere}
 use Rattle.context.specs.Places.Laws.{lowest-found, lowest-passed, lowest-most}
 use Rattle.context.specs.Objects.{Object, object, markedTwice, contradicts}
 use Rattle.context.specs.Objects.Laws.{apart-marked, contradicts-apart}
-use Rattle.machine.specs.Checks.{State, Check, Refusal, force, firstFailing, strangeObject, strangeImplication, outsideM, sessionChecks}
+use Rattle.session.specs.declared.Refusal.{Refusal}
+use Rattle.machine.specs.Checks.{State, Check, force, firstFailing, strangeObject, strangeImplication, outsideM, sessionChecks}
 use Rattle.machine.specs.Checks.Laws.{or-false, passed, passed-append, none-failing}
 use Rattle.exploration.specs.Session.{stateOf, strangePair}
 use Rattle.exploration.specs.declared.Session.{Session}

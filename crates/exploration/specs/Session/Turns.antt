@@ -18,7 +18,8 @@ use Rattle.implication.specs.Pairs.Laws.{pairs-put}
 use Rattle.implication.specs.Closure.{implication, implicationsOf, inForce, closure}
 use Rattle.implication.specs.Next.{next}
 use Rattle.context.specs.Objects.{Object, object, objectsOf}
-use Rattle.machine.specs.Checks.{State, Refusal, Check, check, firstFailing, sessionChecks, yesChecks, noChecks, questionStands, question, reachOf, force}
+use Rattle.session.specs.declared.Refusal.{Refusal}
+use Rattle.machine.specs.Checks.{State, Check, check, firstFailing, sessionChecks, yesChecks, noChecks, questionStands, question, reachOf, force}
 use Rattle.machine.specs.Checks.Laws.{passed, failing-append, passed-append, none-failing}
 use Rattle.machine.specs.Machine.{Call, step, accept, reject, follow, refute, finished, moved, asked, taken, refused, Turn, turn, moveTo, afterYes, afterNo, performStep, performed, checksOf, perform, openingState}
 use Rattle.machine.specs.Machine.Laws.{perform-refused, perform-accepted}

@@ -16,7 +16,8 @@ use Rattle.implication.specs.Closure.{closure}
 use Rattle.context.specs.Places.{anywhere}
 use Rattle.context.specs.Places.Laws.{anywhere-false}
 use Rattle.context.specs.Objects.{Object, contradicts}
-use Rattle.machine.specs.Checks.{State, Check, Refusal, firstFailing, strangeObject, strangeImplication, outsideM, sessionChecks, force, reachOf, questionStands}
+use Rattle.session.specs.declared.Refusal.{Refusal}
+use Rattle.machine.specs.Checks.{State, Check, firstFailing, strangeObject, strangeImplication, outsideM, sessionChecks, force, reachOf, questionStands}
 
 pub or-false : (a b : Bool) → (a || b) ≡ false → (a ≡ false) × (b ≡ false)
 or-false true b e = absurd (true≢false e)

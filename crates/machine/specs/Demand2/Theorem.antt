@@ -23,7 +23,8 @@ use Rattle.context.specs.Objects.{Object, refutes, contradicts}
 use Rattle.context.specs.Reach.Laws.{reach-inside}
 use Rattle.context.specs.Tables.{Complete, Table, AgreesObject, AgreesImplication, completed}
 use Rattle.context.specs.Tables.Laws.{completed-complete, completes, completed-agrees, no-contradiction}
-use Rattle.machine.specs.Checks.{State, Check, Refusal, check, firstFailing, sessionChecks, yesChecks, noChecks, force, reachOf, question, withQuestion, strangeObject}
+use Rattle.session.specs.declared.Refusal.{Refusal}
+use Rattle.machine.specs.Checks.{State, Check, check, firstFailing, sessionChecks, yesChecks, noChecks, force, reachOf, question, withQuestion, strangeObject}
 use Rattle.machine.specs.Checks.Laws.{Passed, passed, passed-append, failing-append, failing-nothing, failing-here, failing-later, or-false, InM, familiar-object, Valid, valid}
 use Rattle.machine.specs.Machine.{Call, accept, reject, taken, refused, Turn, performed, checksOf}
 use Rattle.machine.specs.Machine.Laws.{perform-refused, perform-accepted}

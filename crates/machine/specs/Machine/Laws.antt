@@ -11,7 +11,8 @@ use Rattle.theory.specs.Implications.{Implication}
 use Rattle.attribute_set.specs.Sets.{full}
 use Rattle.implication.specs.Next.{next}
 use Rattle.context.specs.Objects.{Object}
-use Rattle.machine.specs.Checks.{Lent, State, Refusal, firstFailing, sessionChecks, force, reachOf, question}
+use Rattle.session.specs.declared.Refusal.{Refusal}
+use Rattle.machine.specs.Checks.{Lent, State, firstFailing, sessionChecks, force, reachOf, question}
 use Rattle.machine.specs.Machine.{Call, step, finished, moved, asked, refused, Turn, turn, moveTo, performStep, performed, checksOf, perform, Opening, opened, rejected, opening, openingState}
 
 module _ (s : State) (c : Call) where

@@ -12,7 +12,8 @@ use Rattle.theory.specs.Implications.{Implication}
 use Rattle.attribute_set.specs.Sets.{full}
 use Rattle.implication.specs.Next.{next}
 use Rattle.context.specs.Objects.{Object, object, firstRefuting}
-use Rattle.machine.specs.Checks.{State, Refusal, badLength, mostAttributes, mostObjects, mostImplications, force, reachOf, question}
+use Rattle.session.specs.declared.Refusal.{Refusal}
+use Rattle.machine.specs.Checks.{State, badLength, mostAttributes, mostObjects, mostImplications, force, reachOf, question}
 use Rattle.machine.specs.Checks.Laws.{or-false}
 use Rattle.machine.specs.Machine.{moveTo, afterYes, afterNo}
 use Rattle.transcript.specs.Text.{digits, numberText, setText, ruleText, yesLine, noLine, listLines, endLine, refusalLine}
