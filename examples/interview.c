@@ -84,7 +84,8 @@ int main(int argc, char **argv) {
     }
     bytes = fread(file, 1, sizeof file, in);
     fclose(in);
-    zundrafl_read_marks(&layout, file, bytes, rows, ROW_WORDS, &answer);
+    zundrafl_open_table(&layout, file, bytes, &answer);
+    if (answer.code == ZUNDRAFL_TAKEN) zundrafl_read_marks(&layout, file, bytes, rows, ROW_WORDS, &answer);
     if (answer.code != ZUNDRAFL_TAKEN) return refuse("table"), 1;
     zundrafl_open(&session, layout.attributes, layout.objects, rows, ROW_WORDS, list, LIST_WORDS, background, 0, &answer);
     if (answer.code != ZUNDRAFL_TAKEN) return refuse("opening"), 1;

@@ -38,8 +38,9 @@ struct Layout {
 
 #[link(name = "zundrafl", kind = "static")]
 extern "C" {
-    fn zundrafl_read_marks(layout: *mut Layout, file: *const u8, bytes: usize, rows: *mut u64, row_words: usize, answer: *mut Answer);
-    fn zundrafl_attribute_name(layout: *mut Layout, file: *const u8, bytes: usize, number: usize, answer: *mut Answer);
+    fn zundrafl_open_table(layout: *mut Layout, file: *const u8, bytes: usize, answer: *mut Answer);
+    fn zundrafl_read_marks(layout: *const Layout, file: *const u8, bytes: usize, rows: *mut u64, row_words: usize, answer: *mut Answer);
+    fn zundrafl_attribute_name(layout: *const Layout, file: *const u8, bytes: usize, number: usize, answer: *mut Answer);
     fn zundrafl_open(s: *mut Session, n: usize, used: usize, r: *const u64, rs: usize, l: *const u64, ls: usize, b: *const u64, bs: usize, a: *mut Answer);
     fn zundrafl_step(s: *mut Session, r: *const u64, rs: usize, l: *const u64, ls: usize, b: *const u64, bs: usize, a: *mut Answer);
     fn zundrafl_accept(s: *mut Session, r: *const u64, rs: usize, l: *mut u64, ls: usize, b: *const u64, bs: usize, a: *mut Answer);
@@ -59,7 +60,10 @@ impl Interview {
     fn open(file: Vec<u8>) -> Result<Interview, Answer> {
         let mut it = Interview { file, layout: Layout::default(), session: Session::default(), rows: vec![0; 1024], list: vec![0; 512] };
         let mut a = Answer::default();
-        unsafe { zundrafl_read_marks(&mut it.layout, it.file.as_ptr(), it.file.len(), it.rows.as_mut_ptr(), it.rows.len(), &mut a) };
+        unsafe { zundrafl_open_table(&mut it.layout, it.file.as_ptr(), it.file.len(), &mut a) };
+        if a.code == TAKEN {
+            unsafe { zundrafl_read_marks(&it.layout, it.file.as_ptr(), it.file.len(), it.rows.as_mut_ptr(), it.rows.len(), &mut a) };
+        }
         if a.code == TAKEN {
             let (n, used) = (it.layout.attributes, it.layout.objects);
             unsafe { zundrafl_open(&mut it.session, n, used, it.rows.as_ptr(), 1024, it.list.as_ptr(), 512, [].as_ptr(), 0, &mut a) };
@@ -90,7 +94,7 @@ impl Interview {
         let mut names = Vec::new();
         for i in (0..self.session.n).filter(|i| set >> i & 1 == 1) {
             let mut a = Answer::default();
-            unsafe { zundrafl_attribute_name(&mut self.layout, self.file.as_ptr(), self.file.len(), i, &mut a) };
+            unsafe { zundrafl_attribute_name(&self.layout, self.file.as_ptr(), self.file.len(), i, &mut a) };
             names.push(String::from_utf8_lossy(&self.file[a.first as usize..][..a.second as usize]).into_owned());
         }
         if names.is_empty() { "nothing".to_string() } else { names.join(", ") }

@@ -4,8 +4,9 @@
  * marked yes, then those marked no; the rest are unknown. A rule is two words: premise, then conclusion. Rows, list and
  * background are lent to every call as words and their number; the record says how many rows and list rules are in use.
  *
- * Every call writes *answer and touches nothing else that it is not said to write. A refusal has its number as the code and its
- * place as the first value; it changes neither record nor words. Every pointer must be aligned, not null and valid for its length,
+ * Every call writes *answer and touches nothing else that it is not said to write: a record or layout that does not change is not
+ * stored to, and where it is const it is only read. A refusal has its number as the code and its place as the first value; it changes
+ * neither record nor words. Every pointer must be aligned, not null and valid for its length,
  * also where that is 0, and what a call may write must overlap nothing else that it is lent; nothing else is asked of the caller.
  */
 #ifndef ZUNDRAFL_H
@@ -82,11 +83,11 @@ void zundrafl_reject(zundrafl_session *session, uint64_t *rows, size_t row_words
                      const uint64_t *background, size_t background_words, uint64_t yes, uint64_t no, zundrafl_answer *answer);
 
 /* Whether a rule follows from background and list: FOLLOWS with 1 or 0. 1 to 7. */
-void zundrafl_follows(zundrafl_session *session, const uint64_t *rows, size_t row_words, const uint64_t *list, size_t list_words,
+void zundrafl_follows(const zundrafl_session *session, const uint64_t *rows, size_t row_words, const uint64_t *list, size_t list_words,
                       const uint64_t *background, size_t background_words, uint64_t premise, uint64_t conclusion, zundrafl_answer *answer);
 
 /* Whether a row refutes a rule: REFUTED with the lowest such row, or UNREFUTED. 1 to 7. */
-void zundrafl_refuted(zundrafl_session *session, const uint64_t *rows, size_t row_words, const uint64_t *list, size_t list_words,
+void zundrafl_refuted(const zundrafl_session *session, const uint64_t *rows, size_t row_words, const uint64_t *list, size_t list_words,
                       const uint64_t *background, size_t background_words, uint64_t premise, uint64_t conclusion, zundrafl_answer *answer);
 
 /* Makes a log of calls, three words each (kind, two arguments), and writes the answers, three words each, with rows, list and
@@ -95,6 +96,12 @@ void zundrafl_refuted(zundrafl_session *session, const uint64_t *rows, size_t ro
 void zundrafl_replay(zundrafl_session *session, uint64_t *rows, size_t row_words, uint64_t *list, size_t list_words, const uint64_t *background,
                      size_t background_words, const uint64_t *calls, size_t call_words, uint64_t *answers, size_t answer_words,
                      zundrafl_answer *answer);
+
+/* Opens a session and makes a log of calls on it: a saved interview taken up again. Writes *session, rows, list and the answers as opening
+ * and calls leave them. 1 to 6 where the opening is refused, and 3 where the answers have no room for all calls: nothing is done then. */
+void zundrafl_open_and_replay(zundrafl_session *session, size_t n, size_t used, uint64_t *rows, size_t row_words, uint64_t *list, size_t list_words,
+                              const uint64_t *background, size_t background_words, const uint64_t *calls, size_t call_words, uint64_t *answers,
+                              size_t answer_words, zundrafl_answer *answer);
 
 /* ---- the table file, in Burmeister's layout. `place` is the byte offset of the first line that breaks a rule:
  * 21 longer than 65,535 bytes       24 a count out of range          27 a line of marks
@@ -108,14 +115,14 @@ void zundrafl_open_table(zundrafl_layout *layout, const uint8_t *file, size_t by
 /* The same for a table that has to be complete. 21 to 28; 29 a mark is unknown. */
 void zundrafl_open_complete(zundrafl_layout *layout, const uint8_t *file, size_t bytes, zundrafl_answer *answer);
 
-/* Writes the rows of a table file into lent words, and *layout; words past the rows are kept. 2 the number of words is odd or above
- * 1,024; 21 to 28; 3 too few words. */
-void zundrafl_read_marks(zundrafl_layout *layout, const uint8_t *file, size_t bytes, uint64_t *rows, size_t row_words, zundrafl_answer *answer);
+/* Writes the rows of an opened table, its file and its layout, into lent words; words past the rows are kept. 2 the number of words is odd
+ * or above 1,024; 21 to 28; 3 for a layout that is not the one that reading the file finds, and for too few words. */
+void zundrafl_read_marks(const zundrafl_layout *layout, const uint8_t *file, size_t bytes, uint64_t *rows, size_t row_words, zundrafl_answer *answer);
 
 /* Where the name of a row or an attribute stands in the file: TAKEN with its offset and its number of bytes, 1 to 80. 3 for a number
  * past the last, and for a layout that is not the one that reading the file finds. */
-void zundrafl_object_name(zundrafl_layout *layout, const uint8_t *file, size_t bytes, size_t number, zundrafl_answer *answer);
-void zundrafl_attribute_name(zundrafl_layout *layout, const uint8_t *file, size_t bytes, size_t number, zundrafl_answer *answer);
+void zundrafl_object_name(const zundrafl_layout *layout, const uint8_t *file, size_t bytes, size_t number, zundrafl_answer *answer);
+void zundrafl_attribute_name(const zundrafl_layout *layout, const uint8_t *file, size_t bytes, size_t number, zundrafl_answer *answer);
 
 #ifdef __cplusplus
 }

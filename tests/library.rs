@@ -53,7 +53,7 @@ unsafe extern "C" {
     );
 
     pub fn zundrafl_follows(
-        session: *mut Record,
+        session: *const Record,
         rows: *const u64,
         rows_len: usize,
         list: *const u64,
@@ -66,7 +66,7 @@ unsafe extern "C" {
     );
 
     pub fn zundrafl_refuted(
-        session: *mut Record,
+        session: *const Record,
         rows: *const u64,
         rows_len: usize,
         list: *const u64,
@@ -80,6 +80,23 @@ unsafe extern "C" {
 
     pub fn zundrafl_replay(
         session: *mut Record,
+        rows: *mut u64,
+        rows_len: usize,
+        list: *mut u64,
+        list_len: usize,
+        background: *const u64,
+        background_len: usize,
+        calls: *const u64,
+        calls_len: usize,
+        answers: *mut u64,
+        answers_len: usize,
+        answer: *mut Answer,
+    );
+
+    pub fn zundrafl_open_and_replay(
+        session: *mut Record,
+        n: usize,
+        used: usize,
         rows: *mut u64,
         rows_len: usize,
         list: *mut u64,

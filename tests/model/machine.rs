@@ -244,3 +244,25 @@ pub fn replay(
     }
     Answer::accepted()
 }
+
+/// Opens a session and makes a log of calls on it. Nothing is done where the opening is refused or the answers have no room.
+pub fn open_and_replay(
+    record: &mut Record,
+    (n, used): (usize, usize),
+    rows: &mut [u64],
+    list: &mut [u64],
+    background: &[u64],
+    calls: &[u64],
+    answers: &mut [u64],
+) -> Answer {
+    let mut opened = *record;
+    let opening = open(&mut opened, n, used, rows, list, background);
+    if opening != Answer::accepted() {
+        return opening;
+    }
+    let answer = replay(&mut opened, rows, list, background, calls, answers);
+    if answer == Answer::accepted() {
+        *record = opened;
+    }
+    answer
+}

@@ -45,7 +45,7 @@ pub fn open_complete(layout: &mut Layout, file: &[u8]) -> Answer {
     open(layout, file, true)
 }
 
-pub fn read_marks(layout: &mut Layout, file: &[u8], rows: &mut [u64]) -> Answer {
+pub fn read_marks(layout: &Layout, file: &[u8], rows: &mut [u64]) -> Answer {
     if rows.len() % 2 == 1 || rows.len() > MAX_ROW_WORDS {
         return Answer::refusal(2, 0);
     }
@@ -54,13 +54,12 @@ pub fn read_marks(layout: &mut Layout, file: &[u8], rows: &mut [u64]) -> Answer 
         Err(refusal) => return refusal.into(),
     };
     let marks = table.rows();
-    if marks.len() > rows.len() / 2 {
+    if layout_of(&table) != *layout || marks.len() > rows.len() / 2 {
         return Answer::refusal(3, 0);
     }
     for (place, row) in rows.chunks_exact_mut(2).zip(marks) {
         (place[0], place[1]) = row;
     }
-    *layout = layout_of(&table);
     Answer::accepted()
 }
 

@@ -29,7 +29,7 @@ unsafe extern "C" {
     fn zundrafl_open_complete(layout: *mut Layout, file: *const u8, file_len: usize, answer: *mut Answer);
 
     fn zundrafl_read_marks(
-        layout: *mut Layout,
+        layout: *const Layout,
         file: *const u8,
         file_len: usize,
         rows: *mut u64,
@@ -37,10 +37,10 @@ unsafe extern "C" {
         answer: *mut Answer,
     );
 
-    fn zundrafl_object_name(layout: *mut Layout, file: *const u8, file_len: usize, number: usize, answer: *mut Answer);
+    fn zundrafl_object_name(layout: *const Layout, file: *const u8, file_len: usize, number: usize, answer: *mut Answer);
 
     fn zundrafl_attribute_name(
-        layout: *mut Layout,
+        layout: *const Layout,
         file: *const u8,
         file_len: usize,
         number: usize,
@@ -194,16 +194,12 @@ impl Script<'_> {
                 _ => 2 * objects,
             };
             state.rows = self.random.words(length);
+            state.layout = self.likely_layout(right, other);
             self.call(&state, Call::ReadMarks)?;
         }
         state.rows.clear();
         for _ in 0..4 {
-            state.layout = match (self.random.below(4), right) {
-                (0, _) => other.unwrap_or_else(|| self.any_layout()),
-                (1, Some(layout)) => self.wrong_layout(layout),
-                (_, Some(layout)) => layout,
-                (_, None) => self.any_layout(),
-            };
+            state.layout = self.likely_layout(right, other);
             let number = self.any_number(state.layout.objects);
             self.call(&state, Call::ObjectName(number))?;
             let number = self.any_number(state.layout.attributes);
@@ -215,6 +211,16 @@ impl Script<'_> {
     fn right_layout(&mut self, file: &[u8]) -> Option<Layout> {
         let mut layout = self.any_layout();
         (opened::open_table(&mut layout, file) == Answer::accepted()).then_some(layout)
+    }
+
+    /// The right layout mostly, else one that is nearly right or another file's.
+    fn likely_layout(&mut self, right: Option<Layout>, other: Option<Layout>) -> Layout {
+        match (self.random.below(4), right) {
+            (0, _) => other.unwrap_or_else(|| self.any_layout()),
+            (1, Some(layout)) => self.wrong_layout(layout),
+            (_, Some(layout)) => layout,
+            (_, None) => self.any_layout(),
+        }
     }
 
     fn any_layout(&mut self) -> Layout {

@@ -17,6 +17,7 @@ pub const KINDS: &[(&str, &[u64])] = &[
     ("follows", &[1, 2, 3, 4, 5, 6, 7, 104]),
     ("refuted", &[1, 2, 3, 4, 5, 6, 7, 105, 106]),
     ("replay", &[3, 103]),
+    ("open and replay", &[1, 2, 3, 4, 5, 6, 103]),
     ("logged", &[1, 2, 3, 4, 5, 6, 7, 8, 9, 10, 11, 12, 100, 101, 102, 103, 104, 105, 106, 107]),
 ];
 
@@ -45,6 +46,7 @@ enum Call {
     Follows(Pair),
     Refuted(Pair),
     Replay { calls: Vec<u64>, answers: Vec<u64> },
+    OpenAndReplay { n: usize, used: usize, calls: Vec<u64>, answers: Vec<u64> },
 }
 
 /// What a call answers and leaves.
@@ -68,13 +70,14 @@ impl Call {
             Call::Follows(_) => "follows",
             Call::Refuted(_) => "refuted",
             Call::Replay { .. } => "replay",
+            Call::OpenAndReplay { .. } => "open and replay",
         }
     }
 
     /// The log of a replay and the words for its answers.
     fn log(&self) -> (&[u64], &[u64]) {
         match self {
-            Call::Replay { calls, answers } => (calls, answers),
+            Call::Replay { calls, answers } | Call::OpenAndReplay { calls, answers, .. } => (calls, answers),
             _ => (&[], &[]),
         }
     }
@@ -86,6 +89,10 @@ impl Call {
             Call::Step | Call::Yes => kind.to_string(),
             Call::No(pair) | Call::Follows(pair) | Call::Refuted(pair) => format!("{kind} {:#x} {:#x}", pair.0, pair.1),
             Call::Replay { calls, answers } => format!("{kind}\n  log {}\n  answers {}", hex(calls), hex(answers)),
+            Call::OpenAndReplay { n, used, calls, answers } => {
+                let (calls, answers) = (hex(calls), hex(answers));
+                format!("{kind}, n {n}, rows in use {used}\n  log {calls}\n  answers {answers}")
+            }
         }
     }
 }
@@ -119,6 +126,9 @@ fn by_model(state: &State, call: &Call) -> Outcome {
         Call::Follows(rule) => machine::follows(record, rows, list, background, rule),
         Call::Refuted(rule) => machine::refuted(record, rows, list, background, rule),
         Call::Replay { .. } => machine::replay(record, rows, list, background, &calls, &mut answers),
+        Call::OpenAndReplay { n, used, .. } => {
+            machine::open_and_replay(record, (n, used), rows, list, background, &calls, &mut answers)
+        }
     };
     Outcome { answer, state, calls, answers, inside: true }
 }
@@ -147,6 +157,9 @@ fn by_library(state: &State, call: &Call) -> Outcome {
                 zundrafl_refuted(s, r, r_len, l, l_len, b, b_len, premise, conclusion, a)
             }
             Call::Replay { .. } => zundrafl_replay(s, r, r_len, l, l_len, b, b_len, c, c_len, w, w_len, a),
+            Call::OpenAndReplay { n, used, .. } => {
+                zundrafl_open_and_replay(s, n, used, r, r_len, l, l_len, b, b_len, c, c_len, w, w_len, a)
+            }
         }
     }
 
@@ -413,7 +426,7 @@ impl Script<'_> {
     /// Makes a call from a damaged copy of the state.
     fn call_damaged(&mut self, call: Call) -> Result<(), String> {
         let mut state = self.state.clone();
-        if let Call::Open { n, used } = call {
+        if let Call::Open { n, used } | Call::OpenAndReplay { n, used, .. } = call {
             (state.record.n, state.record.rows) = (n, used);
         }
         for _ in 0..[1, 1, 2, 3][self.random.below(4)] {
@@ -421,20 +434,24 @@ impl Script<'_> {
         }
         let call = match call {
             Call::Open { .. } => Call::Open { n: state.record.n, used: state.record.rows },
+            Call::OpenAndReplay { calls, answers, .. } => {
+                Call::OpenAndReplay { n: state.record.n, used: state.record.rows, calls, answers }
+            }
             call => call,
         };
         self.call(state, call).map(|_| ())
     }
 
     fn any_call(&mut self, state: &State) -> Call {
-        match self.random.below(16) {
+        match self.random.below(17) {
             0 => Call::Open { n: state.record.n, used: state.record.rows },
             1 | 2 => Call::Step,
             3 | 4 => Call::Yes,
             5..9 => Call::No(self.any_row(state)),
             9..12 => Call::Follows(self.any_rule(state)),
             12..15 => Call::Refuted(self.any_rule(state)),
-            _ => self.any_replay(state),
+            15 => self.any_replay(state),
+            _ => self.any_opening_with_replay(state),
         }
     }
 
@@ -529,6 +546,16 @@ impl Script<'_> {
         let trailing = self.random.below(CALL_WORDS);
         calls.extend(self.random.words(trailing));
         Call::Replay { calls, answers: self.random.words(answers) }
+    }
+
+    /// A session opened again with the rows in use, and a log for it.
+    fn any_opening_with_replay(&mut self, state: &State) -> Call {
+        let Record { n, rows: used, .. } = state.record;
+        let opened = by_model(state, &Call::Open { n, used }).state;
+        match self.any_replay(&opened) {
+            Call::Replay { calls, answers } => Call::OpenAndReplay { n, used, calls, answers },
+            call => call,
+        }
     }
 
     /// Damages, or nearly damages, the record or the lent words.

@@ -1,5 +1,6 @@
 -- Objects (01: rows) of a table with unknown marks, and when one refutes an implication (01, "Properties, rows, rules";
 -- report 001, section 2.2: partial contexts).
+use mathlib.Core.Path.{_≡_}
 use mathlib.Core.Bool.{Bool, _&&_}
 use mathlib.Core.List.{List}
 use Prim.Native.Nat.{ℕ}
@@ -37,6 +38,10 @@ refutes rs o r = inside (r .premise) (has rs o) && meets (r .conclusion) (lacks 
 -- the place of the first object that refutes r; their number where none does
 unfoldable pub firstRefuting : List (Implication ℕ) → List Object → Implication ℕ → ℕ
 firstRefuting rs os r = lowest (λ o. refutes rs o r) os
+
+-- k is that place, whatever implications are in force
+abbrev pub FirstRefuting : List Object → Implication ℕ → ℕ → Type 0
+FirstRefuting os r k = (rs : List (Implication ℕ)) → k ≡ firstRefuting rs os r
 
 -- an attribute is marked both yes and no
 unfoldable pub markedTwice : Object → Bool

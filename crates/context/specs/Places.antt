@@ -5,6 +5,7 @@ use Prim.Native.Nat.{ℕ, suc}
 use lib.ListN.{length}
 use lib.Dec.{ltb}
 pub mod Laws
+pub mod Search
 
 -- the lowest place at which the test holds, counted from 0; the length where it holds nowhere
 unfoldable pub lowest : {A : Type 0} → (A → Bool) → List A → ℕ

@@ -2,20 +2,12 @@
 // first object that refutes an implication; both hold for whatever implications rs are in force.
 ghost use mathlib.Core.Path.{_≡_};
 ghost use mathlib.Core.List.{List};
-ghost use Prim.Native.Nat.{ℕ, _*_, _/_, _≤_, min};
+ghost use Prim.Native.Nat.{ℕ, _*_, _≤_, min};
 ghost use lib.ListN.{length};
 ghost use Rattle.theory.specs.Implications.{Implication};
 ghost use Rattle.implication.specs.Closure.{implication};
-ghost use Rattle.context.specs.Objects.{object, objectsOf, refutes, firstRefuting};
+ghost use Rattle.context.specs.Objects.{object, objectsOf, refutes, FirstRefuting};
 ghost use Rattle.context.specs.Reach.{cut, narrow, reach};
-
-// How many of the first count objects a slice of so many words has whole.
-fn whole_rows(count: usize, words: usize) -> usize
-    ensures { λ r. ⌜ r ≡ min count (words / 2) ⌝ }
-{
-    let whole = words / 2;
-    if count < whole { count } else { whole }
-}
 
 // What one object leaves of x: what it does not lack, where it has the set.
 fn cut_by(yes: u64, no: u64, set: u64, x: u64) -> u64
@@ -48,14 +40,14 @@ pub fn reach_of(n: usize, rows: &[u64], count: usize, set: u64) -> u64
 {
     narrow_by(
         rows,
-        whole_rows(count, rows.len()),
+        implication::smaller(count, rows.len() / 2),
         set,
         attribute_set::full_set(n),
     )
 }
 
 // Whether the object refutes the implication.
-fn refuted_by(yes: u64, no: u64, premise: u64, conclusion: u64) -> bool
+pub fn refuted_by(yes: u64, no: u64, premise: u64, conclusion: u64) -> bool
     ensures { λ r. ⌜ ((rs : List (Implication ℕ)) → r ≡ refutes rs (object yes no) (implication premise conclusion)) ⌝ }
 {
     premise & yes == premise && conclusion & no != 0
@@ -64,7 +56,7 @@ fn refuted_by(yes: u64, no: u64, premise: u64, conclusion: u64) -> bool
 // The place of the first of count objects that refutes the implication; count where none does.
 fn refuting_among(rows: &[u64], count: usize, premise: u64, conclusion: u64) -> usize
     requires { ⌜ count * 2 ≤ length (now rows) ⌝ }
-    ensures { λ r. ⌜ ((rs : List (Implication ℕ)) → r ≡ firstRefuting rs (objectsOf count (now (rows .entry))) (implication premise conclusion)) ⌝ }
+    ensures { λ r. ⌜ FirstRefuting (objectsOf count (now (rows .entry))) (implication premise conclusion) r ⌝ }
 {
     let mut place = 0;
     while place < count {
@@ -78,9 +70,9 @@ fn refuting_among(rows: &[u64], count: usize, premise: u64, conclusion: u64) -> 
 
 // The place of the first of the first count objects that refutes the implication; count where none does.
 pub fn first_refuting(rows: &[u64], count: usize, premise: u64, conclusion: u64) -> usize
-    ensures { λ r. ⌜ ((rs : List (Implication ℕ)) → r ≡ firstRefuting rs (objectsOf count (now (rows .entry))) (implication premise conclusion)) ⌝ }
+    ensures { λ r. ⌜ FirstRefuting (objectsOf count (now (rows .entry))) (implication premise conclusion) r ⌝ }
 {
-    let whole = whole_rows(count, rows.len());
+    let whole = implication::smaller(count, rows.len() / 2);
     let place = refuting_among(rows, whole, premise, conclusion);
     if place < whole { place } else { count }
 }

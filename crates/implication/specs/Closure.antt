@@ -20,9 +20,21 @@ implication p c = record { premise = p; conclusion = c }
 abbrev pub implicationsOf : ℕ → List ℕ → List (Implication ℕ)
 implicationsOf n ws = pairs implication n ws
 
+-- all whole implications of a flat slice
+abbrev pub allImplications : List ℕ → List (Implication ℕ)
+allImplications ws = implicationsOf (length ws / 2) ws
+
 -- the implications in force (01: rules in force): the background slice, all of it in use, then the first n of the list
 abbrev pub inForce : List ℕ → List ℕ → ℕ → List (Implication ℕ)
-inForce background list n = implicationsOf (length background / 2) background ++ implicationsOf n list
+inForce background list n = allImplications background ++ implicationsOf n list
+
+-- and one more, from p to c
+abbrev pub inForceWith : List ℕ → List ℕ → ℕ → ℕ → ℕ → List (Implication ℕ)
+inForceWith background list n p c = inForce background list n ++ (implication p c ∷ [])
+
+-- the first b implications of one slice, then the first n of another
+abbrev pub firstOfBoth : ℕ → List ℕ → ℕ → List ℕ → List (Implication ℕ)
+firstOfBoth b background n list = implicationsOf b background ++ implicationsOf n list
 
 -- s with the conclusion, where it contains the premise
 unfoldable pub fire : Implication ℕ → ℕ → ℕ

@@ -1,14 +1,13 @@
 // The closure of a set under the implications in force, the next closed set, and whether an implication follows.
 ghost use mathlib.Core.Path.{_≡_};
-ghost use mathlib.Core.List.{[], _∷_, _++_};
 ghost use Prim.Native.Nat.{_*_, _≤_, min};
 ghost use lib.ListN.{length};
-ghost use Rattle.implication.specs.Closure.{implication, implicationsOf, inForce, closure, follows};
+ghost use Rattle.implication.specs.Closure.{implication, implicationsOf, inForce, inForceWith, firstOfBoth, closure, follows};
 ghost use Rattle.implication.specs.Next.{next};
 ghost use Rattle.implication.specs.Until.{PassUntil, CloseUntil};
 
 // The smaller of two numbers.
-fn smaller(a: usize, b: usize) -> usize
+pub fn smaller(a: usize, b: usize) -> usize
     ensures { λ r. ⌜ r ≡ min a b ⌝ }
 {
     if a < b {
@@ -50,7 +49,7 @@ fn close_until(
     stop: u64,
 ) -> u64
     requires { ⌜ («b_count» * 2 ≤ length (now background)) × («l_count» * 2 ≤ length (now list)) ⌝ }
-    ensures { λ r. ⌜ CloseUntil (closure (implicationsOf «b_count» (now (background .entry)) ++ implicationsOf «l_count» (now (list .entry))) set) stop r ⌝ }
+    ensures { λ r. ⌜ CloseUntil (closure (firstOfBoth «b_count» (now (background .entry)) «l_count» (now (list .entry))) set) stop r ⌝ }
 {
     let mut s = set;
     loop {
@@ -120,7 +119,7 @@ pub fn closure_with(
     conclusion: u64,
     set: u64,
 ) -> u64
-    ensures { λ r. ⌜ r ≡ closure (inForce (now (background .entry)) (now (list .entry)) count ++ (implication premise conclusion ∷ [])) set ⌝ }
+    ensures { λ r. ⌜ r ≡ closure (inForceWith (now (background .entry)) (now (list .entry)) count premise conclusion) set ⌝ }
 {
     let mut s = set;
     loop {

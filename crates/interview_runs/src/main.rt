@@ -1,15 +1,18 @@
 // Holds the interview of every table file that its arguments name, and writes its name and the output: once with the program's
-// places, 512 for rows and 256 for rules, and once with 2 for rows and 1 for rules.
+// places, all of a session, and once with 2 for rows and 1 for rules.
 use libc::STDOUT_FILENO;
+use session::Session;
+use table_interview::FILE_BYTES;
+use table_interview::OUTPUT_BYTES;
 
 fn hold(file: &[u8]) {
-    let mut out = [0u8; 163840];
-    interview::hold(file, 512, 256, &mut out, STDOUT_FILENO);
+    let mut out = [0u8; OUTPUT_BYTES];
+    table_interview::hold(file, Session::ROWS, Session::RULES, &mut out, STDOUT_FILENO);
 }
 
 fn hold_few(file: &[u8]) {
-    let mut out = [0u8; 163840];
-    interview::hold(file, 2, 1, &mut out, STDOUT_FILENO);
+    let mut out = [0u8; OUTPUT_BYTES];
+    table_interview::hold(file, 2, 1, &mut out, STDOUT_FILENO);
 }
 
 fn hold_path(path: &[u8]) {
@@ -18,7 +21,7 @@ fn hold_path(path: &[u8]) {
         os::fail(path);
         return;
     }
-    let mut file = [0u8; 65536];
+    let mut file = [0u8; FILE_BYTES];
     let size = io::read_full(fd, &mut file);
     libc::close(fd);
     io::write_all(STDOUT_FILENO, path);

@@ -1,16 +1,18 @@
 -- How the session record and the lent words hold a state of the plain machine, and what a call of the code promises (01, "What a
 -- call commits to"): it is that call of the plain machine, and no lent word changes but the two that an accepted reply writes.
 use mathlib.Core.Path.{_≡_}
+use mathlib.Core.Bool.{Bool, true, false}
 use mathlib.Core.List.{List}
-use Prim.Native.Nat.{ℕ, _+_, _*_, _/_}
+use Prim.Native.Nat.{ℕ, _+_, _*_}
 use denote.Triple.Both.{Both}
 use denote.Ref.{RefT, now}
 use lib.ListN.{length, set}
 use Rattle.session.specs.declared.Session.{Session}
-use Rattle.implication.specs.Closure.{implicationsOf}
+use Rattle.implication.specs.Closure.{implicationsOf, allImplications}
 use Rattle.context.specs.Objects.{objectsOf}
 use Rattle.machine.specs.Checks.{Lent, State, question}
 use Rattle.machine.specs.Machine.{Call, step, accept, reject, follow, refute, Answer, finished, moved, asked, taken, followed, refuted, unrefuted, refused, perform, Opening, opening}
+pub mod Laws
 
 -- ---- states
 
@@ -19,7 +21,7 @@ abbrev pub stateOf : Session → List ℕ → List ℕ → List ℕ → State
 stateOf s rows list background = record {
   n = s .n;
   lent = record { rows = length rows; list = length list; background = length background };
-  background = implicationsOf (length background / 2) background;
+  background = allImplications background;
   rows = objectsOf (s .rows) rows;
   list = implicationsOf (s .rules) list;
   current = s .current;
@@ -29,13 +31,13 @@ stateOf s rows list background = record {
 abbrev pub Words : Type 0
 Words = Both (RefT (List ℕ)) (RefT (List ℕ))
 
+-- a lent record, at the same two moments
+abbrev pub Record : Type 0
+Record = Both (RefT Session) (RefT Session)
+
 -- the state that a call is given: rows, list, background
 abbrev pub given : Session → Words → Words → Words → State
 given s rows list background = stateOf s (now (rows .entry)) (now (list .entry)) (now (background .entry))
-
--- the state that it leaves
-abbrev pub left : Session → Words → Words → Words → State
-left s rows list background = stateOf s (now (rows .exit)) (now (list .exit)) (now (background .exit))
 
 -- ---- the lent words after a call: on a refusal as they were, after an accepted reply with the two words of the next place set
 
@@ -49,37 +51,77 @@ putPair (refuted p) k a b ws = ws
 putPair unrefuted k a b ws = ws
 putPair (refused r) k a b ws = ws
 
--- the row words: a no writes the offered row
-abbrev pub rowsAfter : Call → State → List ℕ → List ℕ
-rowsAfter step s ws = ws
-rowsAfter accept s ws = ws
-rowsAfter (reject o) s ws = putPair (perform s (reject o) .answer) (length (s .rows)) (o .yes-marks) (o .no-marks) ws
-rowsAfter (follow r) s ws = ws
-rowsAfter (refute r) s ws = ws
+-- the row words after a call with this answer: a no writes the offered row
+abbrev pub rowsBy : Call → Answer → State → List ℕ → List ℕ
+rowsBy step a s ws = ws
+rowsBy accept a s ws = ws
+rowsBy (reject o) a s ws = putPair a (length (s .rows)) (o .yes-marks) (o .no-marks) ws
+rowsBy (follow r) a s ws = ws
+rowsBy (refute r) a s ws = ws
 
--- the list words: a yes writes the question
+-- the list words after it: a yes writes the question
+abbrev pub listBy : Call → Answer → State → List ℕ → List ℕ
+listBy step a s ws = ws
+listBy accept a s ws = putPair a (length (s .list)) (question s .premise) (question s .conclusion) ws
+listBy (reject o) a s ws = ws
+listBy (follow r) a s ws = ws
+listBy (refute r) a s ws = ws
+
+-- after a call of the plain machine
+abbrev pub rowsAfter : Call → State → List ℕ → List ℕ
+rowsAfter c s ws = rowsBy c (perform s c .answer) s ws
+
 abbrev pub listAfter : Call → State → List ℕ → List ℕ
-listAfter step s ws = ws
-listAfter accept s ws = putPair (perform s accept .answer) (length (s .list)) (question s .premise) (question s .conclusion) ws
-listAfter (reject o) s ws = ws
-listAfter (follow r) s ws = ws
-listAfter (refute r) s ws = ws
+listAfter c s ws = listBy c (perform s c .answer) s ws
 
 -- ---- what a call promises
 
 -- The call is that call of the plain machine: its answer, said in the caller's terms; the state that record and words then hold; and
--- every lent word.
-pub record Made {X : Type 0} (says : Answer → X) (c : Call) (s : Session) (rows list background : Words) (x : X) (after : Session) : Type 0 where
-  pub answer : x ≡ says (perform (given s rows list background) c .answer)
-  pub state : left after rows list background ≡ perform (given s rows list background) c .after
-  pub rows-written : now (rows .exit) ≡ rowsAfter c (given s rows list background) (now (rows .entry))
-  pub list-written : now (list .exit) ≡ listAfter c (given s rows list background) (now (list .entry))
+-- every lent word. From rows, list and background to the rows and the list that it leaves.
+pub record MadeFrom {X : Type 0} (says : Answer → X) (c : Call) (s : Session) (rows list background : List ℕ) (x : X) (after : Session) (rows′ list′ : List ℕ) : Type 0 where
+  pub answer : x ≡ says (perform (stateOf s rows list background) c .answer)
+  pub state : stateOf after rows′ list′ background ≡ perform (stateOf s rows list background) c .after
+  pub rows-written : rows′ ≡ rowsAfter c (stateOf s rows list background) rows
+  pub list-written : list′ ≡ listAfter c (stateOf s rows list background) list
+
+abbrev pub Made : {X : Type 0} → (Answer → X) → Call → Session → Words → Words → Words → X → Session → Type 0
+Made says c s rows list background x after =
+    MadeFrom says c s (now (rows .entry)) (now (list .entry)) (now (background .entry)) x after (now (rows .exit)) (now (list .exit))
+
+-- whether an answer says that the record changed: a move, and an accepted reply
+abbrev pub changes : Answer → Bool
+changes finished = false
+changes moved = true
+changes (asked q) = false
+changes taken = true
+changes (followed b) = false
+changes (refuted p) = false
+changes unrefuted = false
+changes (refused r) = false
+
+-- the same of a call that says besides whether the record changed
+pub record TurnedFrom {X : Type 0} (says : Answer → X) (c : Call) (s : Session) (rows list background : List ℕ) (x : X) (after : Session) (rows′ list′ : List ℕ) (changed : Bool)
+    : Type 0 where
+  pub made : MadeFrom says c s rows list background x after rows′ list′
+  pub change : changed ≡ changes (perform (stateOf s rows list background) c .answer)
+
+abbrev pub Turned : {X : Type 0} → (Answer → X) → Call → Session → Words → Words → Words → X → Session → Bool → Type 0
+Turned says c s rows list background x after =
+    TurnedFrom says c s (now (rows .entry)) (now (list .entry)) (now (background .entry)) x after (now (rows .exit)) (now (list .exit))
+
+-- in the machine's own terms
+abbrev pub Turns : Call → Session → Words → Words → Words → Answer → Session → Bool → Type 0
+Turns = Turned (λ (a : Answer). a)
 
 abbrev pub Performs : Call → Session → Words → Words → Words → Answer → Session → Type 0
 Performs = Made (λ (a : Answer). a)
+
+-- the same over a lent record
+abbrev pub PerformsOn : Call → Record → Words → Words → Words → Answer → Type 0
+PerformsOn c session rows list background x = Performs c (now (session .entry)) rows list background x (now (session .exit))
 
 -- what the plain machine opens with: n, so many rows in use, and the lent words
 abbrev pub openingFrom : ℕ → ℕ → List ℕ → List ℕ → List ℕ → Opening
 openingFrom n used rows list background =
     opening n (record { rows = length rows; list = length list; background = length background })
-    (implicationsOf (length background / 2) background) (objectsOf used rows)
+    (allImplications background) (objectsOf used rows)

@@ -49,9 +49,21 @@ force s = s .background ++ s .list
 abbrev pub reachOf : State → ℕ
 reachOf s = reach (force s) (s .n) (s .rows) (s .current)
 
--- a question stands: the current set is not M, and its reach differs from it
+-- how the current set stands: it is M, or its reach is itself, or its reach differs from it, so that a question stands
+pub data Standing : Type 0 where
+  whole : Standing
+  tight : Standing
+  open-question : Standing
+
+unfoldable pub standing : State → Standing
+standing s =
+    elim (eqb (s .current) (full (s .n))) [
+      | true ↦ whole
+      | false ↦ elim (eqb (reachOf s) (s .current)) [ true ↦ tight | false ↦ open-question ]
+    ]
+
 unfoldable pub questionStands : State → Bool
-questionStands s = elim (eqb (s .current) (full (s .n))) [ true ↦ false | false ↦ not (eqb (reachOf s) (s .current)) ]
+questionStands s = elim (standing s) [ whole ↦ false | tight ↦ false | open-question ↦ true ]
 
 -- the question: from the current set to the rest of its reach
 abbrev pub question : State → Implication ℕ
@@ -83,12 +95,16 @@ firstFailing (c ∷ cs) = elim (c .fails) [ true ↦ some (refusal (c .number) (
 unfoldable pub badLength : ℕ → ℕ → Bool
 badLength most words = not (eqb (words % 2) 0) || ltb (most * 2) words
 
--- an attribute outside M
-unfoldable pub strangeObject : ℕ → Object → Bool
-strangeObject n o = not (inside (o .yes-marks) (full n)) || not (inside (o .no-marks) (full n))
+-- one of two sets has an attribute outside m
+unfoldable pub strange : ℕ → ℕ → ℕ → Bool
+strange m a b = not (inside a m) || not (inside b m)
 
-unfoldable pub strangeImplication : ℕ → Implication ℕ → Bool
-strangeImplication n r = not (inside (r .premise) (full n)) || not (inside (r .conclusion) (full n))
+-- so of an object and of an implication over the first n attributes
+abbrev pub strangeObject : ℕ → Object → Bool
+strangeObject n o = strange (full n) (o .yes-marks) (o .no-marks)
+
+abbrev pub strangeImplication : ℕ → Implication ℕ → Bool
+strangeImplication n r = strange (full n) (r .premise) (r .conclusion)
 
 -- a row in use, a rule in force, a rule asked about or the current set has an attribute outside M
 unfoldable pub outsideM : State → List (Implication ℕ) → Bool

@@ -2,6 +2,8 @@ pub mod Checks
 pub mod Machine
 pub mod Calls
 pub mod Marked
+pub mod Edges
 pub mod Replies
+pub mod Facts
 pub mod Demand2
 pub mod Demand3

@@ -5,14 +5,13 @@ use mathlib.Core.List.{List, [], _∷_, _++_}
 use mathlib.Core.Option.{none, some}
 use Prim.Native.Nat.{ℕ}
 use lib.ListN.{length}
-use lib.Dec.{eqb, ltb}
+use lib.Dec.{ltb}
 use Rattle.theory.specs.Implications.{Implication}
-use Rattle.attribute_set.specs.Sets.{full}
 use Rattle.implication.specs.Closure.{closure, follows}
 use Rattle.implication.specs.Next.{next}
 use Rattle.context.specs.Objects.{Object, firstRefuting}
 use Rattle.session.specs.declared.Refusal.{Refusal}
-use Rattle.machine.specs.Checks.{Lent, State, Check, firstFailing, sessionChecks, yesChecks, noChecks, force, reachOf, question, withQuestion}
+use Rattle.machine.specs.Checks.{Lent, State, Check, firstFailing, sessionChecks, yesChecks, noChecks, force, Standing, whole, tight, open-question, standing, question, withQuestion}
 pub mod Laws
 
 -- the calls of a session, with any arguments
@@ -66,12 +65,10 @@ afterNo s o = record { n = s .n; lent = s .lent; background = s .background; row
 -- at M: Finished. Where the reach differs: Asked. Else the next set.
 unfoldable pub performStep : State → Turn
 performStep s =
-    elim (eqb (s .current) (full (s .n))) [
-      | true ↦ turn finished s
-      | false ↦ elim (eqb (reachOf s) (s .current)) [
-        | true ↦ turn moved (moveTo s (next (force s) (s .n) (s .current)))
-        | false ↦ turn (asked (question s)) s
-      ]
+    elim (standing s) [
+      | whole ↦ turn finished s
+      | tight ↦ turn moved (moveTo s (next (force s) (s .n) (s .current)))
+      | open-question ↦ turn (asked (question s)) s
     ]
 
 -- the first row that refutes, where there is one

@@ -1,1 +1,3 @@
+pub mod Choice
+pub mod Records
 pub mod Refusals

@@ -7,7 +7,7 @@ fn put(n: u64) {
     io::print_decimal(STDOUT_FILENO, n);
 }
 
-fn put_refusal(refusal: burmeister::Refusal) {
+fn put_refusal(refusal: session::Refusal) {
     io::write_all(STDOUT_FILENO, b" E");
     put(refusal.number);
     put(refusal.place as u64);
@@ -15,7 +15,7 @@ fn put_refusal(refusal: burmeister::Refusal) {
 
 // The words of a row of those that were read.
 fn put_row(rows: &[u64], number: usize) {
-    if number < 512 {
+    if number < session::Session::ROWS {
         let at = number * 2;
         if at + 1 < rows.len() {
             put(rows[at]);
@@ -24,33 +24,44 @@ fn put_row(rows: &[u64], number: usize) {
     }
 }
 
-fn put_names(file: &[u8], layout: burmeister::Layout) {
-    put(burmeister::object_name(file, layout, 0).len() as u64);
+fn put_object(file: &[u8], layout: table_layout::Layout, number: usize) {
+    let mut refused = 0;
+    put(table_names::object_name(file, layout, number, &mut refused).len() as u64);
+}
+
+fn put_attribute(file: &[u8], layout: table_layout::Layout, number: usize) {
+    let mut refused = 0;
+    put(table_names::attribute_name(file, layout, number, &mut refused).len() as u64);
+}
+
+fn put_names(file: &[u8], layout: table_layout::Layout) {
+    put_object(file, layout, 0);
     if 0 < layout.objects {
-        put(burmeister::object_name(file, layout, layout.objects - 1).len() as u64);
+        put_object(file, layout, layout.objects - 1);
     }
-    put(burmeister::object_name(file, layout, layout.objects).len() as u64);
-    put(burmeister::attribute_name(file, layout, 0).len() as u64);
+    put_object(file, layout, layout.objects);
+    put_attribute(file, layout, 0);
     if 0 < layout.attributes {
-        put(burmeister::attribute_name(file, layout, layout.attributes - 1).len() as u64);
+        put_attribute(file, layout, layout.attributes - 1);
     }
-    put(burmeister::attribute_name(file, layout, layout.attributes).len() as u64);
+    put_attribute(file, layout, layout.attributes);
 }
 
 // Whether the table is complete; else where its first unknown mark is.
 fn put_complete(file: &[u8]) {
-    let opened = burmeister::open_complete(file);
+    let mut rows = [0u64; session::Session::ROWS * 2];
+    let opened = table_marks::read_complete(file, &mut rows);
     match opened {
-        burmeister::Opened::Table(_) => {
+        table_layout::Opened::Found(_) => {
             io::write_all(STDOUT_FILENO, b" complete");
         }
-        burmeister::Opened::Refused(refusal) => {
+        table_layout::Opened::Refused(refusal) => {
             put_refusal(refusal);
         }
     }
 }
 
-fn put_table(file: &[u8], rows: &[u64], layout: burmeister::Layout) {
+fn put_table(file: &[u8], rows: &[u64], layout: table_layout::Layout) {
     put(layout.objects as u64);
     put(layout.attributes as u64);
     put(layout.object_names as u64);
@@ -65,11 +76,11 @@ fn put_table(file: &[u8], rows: &[u64], layout: burmeister::Layout) {
 }
 
 fn show(file: &[u8]) {
-    let mut rows = [0u64; 1024];
-    let reading = burmeister::read_marks(file, &mut rows);
+    let mut rows = [0u64; session::Session::ROWS * 2];
+    let reading = table_marks::read_marks(file, &mut rows);
     match reading {
-        burmeister::Reading::Read(layout) => put_table(file, &rows, layout),
-        burmeister::Reading::Refused(refusal) => put_refusal(refusal),
+        table_layout::Opened::Found(layout) => put_table(file, &rows, layout),
+        table_layout::Opened::Refused(refusal) => put_refusal(refusal),
     }
 }
 
@@ -79,7 +90,7 @@ fn show_path(path: &[u8]) {
         os::fail(path);
         return;
     }
-    let mut file = [0u8; 65536];
+    let mut file = [0u8; table_layout::Layout::BYTES + 1];
     let size = io::read_full(fd, &mut file);
     libc::close(fd);
     io::write_all(STDOUT_FILENO, path);

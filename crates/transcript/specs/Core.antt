@@ -12,9 +12,10 @@ use Rattle.attribute_set.specs.Sets.{full}
 use Rattle.implication.specs.Next.{next}
 use Rattle.context.specs.Objects.{Object, object, firstRefuting}
 use Rattle.session.specs.declared.Refusal.{Refusal}
+use Rattle.session.specs.Refusals.{refusal}
 use Rattle.machine.specs.Checks.{State, force, reachOf, question}
 use Rattle.machine.specs.Machine.{moveTo, afterYes, afterNo}
-use Rattle.transcript.specs.Text.{yesLine, noLine, refusalLine}
+use Rattle.output_lines.specs.Lines.{yesLine, noLine, refusalLine}
 use Rattle.transcript.specs.Output.{Beat, more, last, closing}
 pub mod Along
 pub mod Beats
@@ -29,29 +30,29 @@ abbrev pub counted : ℕ → ℕ
 counted changes = min (suc changes) 18446744073709551615
 
 -- no place is left
-abbrev pub full-up : Refusal
-full-up = record { number = 12; place = 0 }
+abbrev pub noPlace : Refusal
+noPlace = refusal 12 0
 
--- no, with the row at this place of the table
+-- no, with a row of the table and its number
 unfoldable pub coreNo : State → ℕ → Implication ℕ → ℕ → Object → Beat
-coreNo s changes q row o =
+coreNo s changes q number o =
     elim (leb (s .lent .rows / 2) (length (s .rows))) [
-      | true ↦ last (noLine (s .n) q (row + 1) ++ refusalLine full-up)
-      | false ↦ more (noLine (s .n) q (row + 1)) (afterNo s o) changes
+      | true ↦ last (noLine (s .n) q number ++ refusalLine noPlace)
+      | false ↦ more (noLine (s .n) q number) (afterNo s o) changes
     ]
 
 -- yes
 unfoldable pub coreYes : State → ℕ → Implication ℕ → Beat
 coreYes s changes q =
     elim (leb (s .lent .list / 2) (length (s .list))) [
-      | true ↦ last (yesLine (s .n) q ++ refusalLine full-up)
+      | true ↦ last (yesLine (s .n) q ++ refusalLine noPlace)
       | false ↦ more (yesLine (s .n) q) (afterYes s) (counted changes)
     ]
 
 unfoldable pub coreReply : List Object → State → ℕ → Implication ℕ → Beat
 coreReply table s changes q =
     elim (ltb (firstRefuting [] table q) (length table)) [
-      | true ↦ coreNo s changes q (firstRefuting [] table q) (getD table (firstRefuting [] table q) (object 0 0))
+      | true ↦ coreNo s changes q (firstRefuting [] table q + 1) (getD table (firstRefuting [] table q) (object 0 0))
       | false ↦ coreYes s changes q
     ]
 

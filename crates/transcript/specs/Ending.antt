@@ -12,8 +12,8 @@ use Rattle.implication.specs.Closure.{follows}
 use Rattle.context.specs.Objects.{Object}
 use Rattle.context.specs.Tables.{AgreesImplication}
 use Rattle.machine.specs.Demand3.{OverM}
-use Rattle.transcript.specs.Text.{yesLine, noLine, listLines, endLine, refusalLine}
-use Rattle.transcript.specs.Core.{full-up}
+use Rattle.output_lines.specs.Lines.{yesLine, noLine, listLines, endLine, refusalLine}
+use Rattle.transcript.specs.Core.{noPlace}
 
 -- just the implications that hold in the table follow from the list
 abbrev pub Decides : ℕ → List Object → List (Implication ℕ) → Type 0
@@ -37,10 +37,10 @@ pub record Full (n : ℕ) (text : List ℕ) : Type 0 where
   pub question : Implication ℕ
   pub reply : List ℕ
   pub replies : (reply ≡ yesLine n question) ⊎ ((row : ℕ) × (reply ≡ noLine n question row))
-  pub whole : text ≡ before ++ (reply ++ refusalLine full-up)
+  pub whole : text ≡ before ++ (reply ++ refusalLine noPlace)
 
 -- the output ends in the refusal of a yes for which there is no place, its Q line before it
 pub record ListFull (n : ℕ) (text : List ℕ) : Type 0 where
   pub before : List ℕ
   pub question : Implication ℕ
-  pub whole : text ≡ before ++ (yesLine n question ++ refusalLine full-up)
+  pub whole : text ≡ before ++ (yesLine n question ++ refusalLine noPlace)

@@ -1,5 +1,3 @@
-pub mod Text
-pub mod Page
 pub mod Output
 pub mod Core
 pub mod Ending

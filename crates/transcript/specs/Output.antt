@@ -8,16 +8,17 @@ use lib.ListN.{length, getD}
 use lib.Dec.{ltb}
 use Rattle.theory.specs.Implications.{Implication}
 use Rattle.context.specs.Objects.{Object, object, firstRefuting}
-use Rattle.machine.specs.Checks.{Lent, State}
+use Rattle.machine.specs.Checks.{Lent, State, mostObjects, mostImplications}
 use Rattle.machine.specs.Machine.{step, accept, reject, Answer, finished, moved, asked, taken, followed, refuted, unrefuted, refused, perform, opened, rejected, Opening, opening}
-use Rattle.burmeister.specs.Layout as layout
-use Rattle.burmeister.specs.Marks.{rowsFrom}
-use Rattle.burmeister.specs.Names.{completeOf}
-use Rattle.burmeister.specs.declared.Layout.{Layout}
-use Rattle.burmeister.specs.declared.Opened.{Opened}
-use Rattle.burmeister.specs.declared.Opened.the-variants.{Table, Refused}
-use Rattle.transcript.specs.Text.{yesLine, noLine, listLines, endLine, refusalLine}
+use Rattle.table_layout.specs.Layout.{mostBytes, openedOf}
+use Rattle.table_marks.specs.Marks.{rowsFrom}
+use Rattle.table_marks.specs.Complete.{completeOf}
+use Rattle.table_layout.specs.declared.Layout.{Layout}
+use Rattle.table_layout.specs.declared.Opened.{Opened}
+use Rattle.table_layout.specs.declared.Opened.the-variants.{Found, Refused}
+use Rattle.output_lines.specs.Lines.{yesLine, noLine, listLines, endLine, refusalLine}
 pub mod Ends
+pub mod Longer
 
 -- what one beat of the interview writes, and how it goes on: with the next state and the changes of the current set so far
 pub data Beat : Type 0 where
@@ -72,9 +73,9 @@ beats (suc k) table s changes =
     elim (beat table s changes) [ more line s′ changes′ ↦ line ++ beats k table s′ changes′ | last line ↦ line ]
 
 -- whether the last beat is among the first k
-unfoldable pub ended : ℕ → List Object → State → ℕ → Bool
-ended zero table s changes = false
-ended (suc k) table s changes = elim (beat table s changes) [ more line s′ changes′ ↦ ended k table s′ changes′ | last line ↦ true ]
+unfoldable pub lastWithin : ℕ → List Object → State → ℕ → Bool
+lastWithin zero table s changes = false
+lastWithin (suc k) table s changes = elim (beat table s changes) [ more line s′ changes′ ↦ lastWithin k table s′ changes′ | last line ↦ true ]
 
 -- a change of the current set goes on to a later one, of 2 to the power n sets, and between two changes at most as many rows are
 -- filed as there are places: `Ends` proves that this many beats are enough
@@ -90,16 +91,24 @@ abbrev pub tableOf : List ℕ → Layout → List Object
 tableOf file l = rowsFrom (l .objects) file (l .marks)
 
 abbrev pub written : Lent → List ℕ → Opened → List ℕ
-written lent file (Table l) = interviewed (tableOf file l) (opening (l .attributes) lent [] [])
-written lent file (Refused r) = refusalLine (record { number = r .number; place = r .place })
+written lent file (Found l) = interviewed (tableOf file l) (opening (l .attributes) lent [] [])
+written lent file (Refused r) = refusalLine r
 
 -- the output where these places are lent
 unfoldable pub outputWith : Lent → List ℕ → List ℕ
-outputWith lent file = written lent file (completeOf file (layout.opening file))
+outputWith lent file = written lent file (completeOf file (openedOf file))
 
--- the program lends 512 places for rows and 256 for rules, and no background
+-- the program lends all places of a session for rows and rules, and no background
 abbrev pub places : Lent
-places = record { rows = 1024; list = 512; background = 0 }
+places = record { rows = mostObjects * 2; list = mostImplications * 2; background = 0 }
+
+-- the program reads so many bytes, one more than a file may have: a longer input gives what these give (`Longer`)
+abbrev pub inputMost : ℕ
+inputMost = suc mostBytes
+
+-- no output is longer than these bytes (`Core/Program`)
+abbrev pub outputMost : ℕ
+outputMost = 163840
 
 -- the program's output
 abbrev pub output : List ℕ → List ℕ

@@ -1,11 +1,1 @@
-pub mod Walks
-pub mod Lent
-pub mod Behind
-pub mod Calls
-pub mod Tools
-pub mod Opening
-pub mod Spanning
-pub mod Lending
-pub mod Asking
-pub mod Viewed
-pub mod Named
+pub mod Types

@@ -4,10 +4,10 @@ use mathlib.Core.Path.{_≡_, refl, sym, ap, ap₂, _∙_, subst}
 use mathlib.Core.Logic.{_⊎_, inl, inr, ⊎-elim}
 use mathlib.Core.Bool.{Bool, true, false, not}
 use Prim.Native.Nat.{ℕ, zero, suc, _+_, _-_, _*_, _/_, _%_, _^_, _≤_, _<_, min, max}
-use native.Mathlib.Nat.{mod-lt, mod-eq-of-lt, div-eq-of-lt, lt-of-lt-of-le}
+use native.Mathlib.Nat.{mod-lt, mod-eq-of-lt, div-eq-of-lt, div-self, lt-of-lt-of-le}
 use native.Mathlib.Omega.{arith}
 use lib.Arith.{bin-ind, digits-mod}
-use lib.Pow.{shr-shr, pow-mono, pow-pos, ones-lt}
+use lib.Pow.{shr-shr, pow-mono, pow-lt, pow-pos, ones-lt}
 use lib.Bits.{bitAnd, bitOr, and-step, or-step, and-shr, or-shr, or-add-and, and-le-l, and-le-r, and-mask}
 use lib.Dec.{lit<, ltb}
 use borrow.Author.Tests.{eqb-true, eqb-false, eq-eqb, not-true, not-false, ltb-true, ltb-false}
@@ -246,3 +246,7 @@ sub-full-lt x n s = subst (λ (k : ℕ). k < 2 ^ n) (sym (and-mask x n) ∙ sub�
 -- its members are the attributes below n
 pub full-member : (n i : ℕ) → In i (full n) → i < n
 full-member n i h = member-lt (full n) i n (full-lt n) h
+
+-- and every attribute below n is one
+pub member-full : (n i : ℕ) → i < n → In i (full n)
+member-full n i h = lt-sub-full (2 ^ i) n (pow-lt h) .at i (rw (div-self (pow-pos i)))

@@ -11,8 +11,8 @@ use borrow.Author.Needs.{needs}
 use Rattle.context.proofs.first_refuting.Statement.{statement}
 use Rattle.context.proofs.first_refuting.Tie as tie
 
-whole-rows-requires : tie.Need-whole-rows-requires
-whole-rows-requires c κs = search needs
+smaller-requires : tie.Need-smaller-requires
+smaller-requires c κs = search needs
 
 refuting-among-requires : tie.Need-refuting-among-requires
 refuting-among-requires c κs = search needs
@@ -25,21 +25,21 @@ found : (c : tie.After-refuting-among) (rs : List (Implication ℕ))
 found c rs =
     let a = c .before .before .before .args in
     c .refuting-among .ensures rs
-    ∙ ap (λ k. firstRefuting rs (objectsOf k (a .rows .now)) (implication (a .premise) (a .conclusion))) (c .before .whole-rows .ensures)
+    ∙ ap (λ k. firstRefuting rs (objectsOf k (a .rows .now)) (implication (a .premise) (a .conclusion))) (c .before .smaller .ensures)
 
 returns : tie.Need-returns
 returns c rs =
     let a = c .before .before .before .before .args in
     let r = implication (a .premise) (a .conclusion) in
     found (c .before) rs
-    ∙ sym (first-whole rs r (a .count) (a .rows .now) (omega (arith, found (c .before) rs, c .before .before .whole-rows .ensures)))
+    ∙ sym (first-whole rs r (a .count) (a .rows .now) (omega (arith, found (c .before) rs, c .before .before .smaller .ensures)))
 
 returns-2 : tie.Need-returns-2
 returns-2 c rs =
     let a = c .before .before .before .before .args in
     let r = implication (a .premise) (a .conclusion) in
-    sym (first-none rs r (a .count) (a .rows .now) (omega (arith, found (c .before) rs, c .before .before .whole-rows .ensures)))
+    sym (first-none rs r (a .count) (a .rows .now) (omega (arith, found (c .before) rs, c .before .before .smaller .ensures)))
 
 pub first-refuting-spec : {M : Type 1} → statement M
 first-refuting-spec =
-    tie.close (tie.spec whole-rows-requires refuting-among-requires returns returns-2)
+    tie.close (tie.spec smaller-requires refuting-among-requires returns returns-2)

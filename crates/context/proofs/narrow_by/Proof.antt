@@ -24,36 +24,6 @@ abbrev μ-loop : tie.MeasureT-loop
 loop-holds : tie.Need-loop-holds Inv-loop μ-loop
 loop-holds c = (omega arith, λ rs. rw sub-zero)
 
-mul-cut-by : tie.Need-mul-cut-by Inv-loop μ-loop
-mul-cut-by c = omega arith
-
-mul-cut-by-2 : tie.Need-mul-cut-by-2 Inv-loop μ-loop
-mul-cut-by-2 c = search needs
-
-shared-slice-read-cut-by : tie.Need-shared-slice-read-cut-by Inv-loop μ-loop
-shared-slice-read-cut-by c = omega arith
-
-mul-cut-by-3 : tie.Need-mul-cut-by-3 Inv-loop μ-loop
-mul-cut-by-3 c = omega arith
-
-add-cut-by : tie.Need-add-cut-by Inv-loop μ-loop
-add-cut-by c = omega arith
-
-mul-cut-by-4 : tie.Need-mul-cut-by-4 Inv-loop μ-loop
-mul-cut-by-4 c = search needs
-
-shared-slice-read-cut-by-2 : tie.Need-shared-slice-read-cut-by-2 Inv-loop μ-loop
-shared-slice-read-cut-by-2 c = omega arith
-
-cut-by-requires : tie.Need-cut-by-requires Inv-loop μ-loop
-cut-by-requires c κs = search needs
-
-add-i : tie.Need-add-i Inv-loop μ-loop
-add-i c = omega arith
-
-loop-less : tie.Need-loop-less Inv-loop μ-loop
-loop-less c = omega arith
-
 loop-again : tie.Need-loop-again Inv-loop μ-loop
 unfolding narrow
 loop-again c =
@@ -80,15 +50,15 @@ narrow-by-spec =
     Inv-loop
     μ-loop
     loop-holds
-    mul-cut-by
-    mul-cut-by-2
-    shared-slice-read-cut-by
-    mul-cut-by-3
-    add-cut-by
-    mul-cut-by-4
-    shared-slice-read-cut-by-2
-    cut-by-requires
-    add-i
-    loop-less
+    (λ c. omega arith)
+    (λ c. search needs)
+    (λ c. omega arith)
+    (λ c. omega arith)
+    (λ c. omega arith)
+    (λ c. search needs)
+    (λ c. omega arith)
+    (λ c κs. search needs)
+    (λ c. omega arith)
+    (λ c. omega arith)
     loop-again
     returns)

@@ -8,8 +8,8 @@ use borrow.Author.Needs.{needs}
 use Rattle.context.proofs.reach_of.Statement.{statement}
 use Rattle.context.proofs.reach_of.Tie as tie
 
-whole-rows-requires : tie.Need-whole-rows-requires
-whole-rows-requires c κs = search needs
+smaller-requires : tie.Need-smaller-requires
+smaller-requires c κs = search needs
 
 full-set-requires : tie.Need-full-set-requires
 full-set-requires c κs = search needs
@@ -22,9 +22,9 @@ unfolding reach
 returns c rs =
     let a = c .before .before .before .before .args in
     c .narrow-by .ensures rs
-    ∙ ap₂ (λ k x. narrow rs (a .set) (objectsOf k (a .rows .now)) x) (c .before .before .whole-rows .ensures) (c .before .full-set .ensures)
+    ∙ ap₂ (λ k x. narrow rs (a .set) (objectsOf k (a .rows .now)) x) (c .before .before .smaller .ensures) (c .before .full-set .ensures)
     ∙ sym (reach-whole rs (min (a .n) 64) (a .count) (a .rows .now) (a .set))
 
 pub reach-of-spec : {M : Type 1} → statement M
 reach-of-spec =
-    tie.close (tie.spec whole-rows-requires full-set-requires narrow-by-requires returns)
+    tie.close (tie.spec smaller-requires full-set-requires narrow-by-requires returns)

@@ -28,30 +28,6 @@ abbrev μ-loop : tie.MeasureT-loop
 loop-holds : tie.Need-loop-holds Inv-loop μ-loop
 loop-holds c = (omega arith, λ rs. rw sub-zero (omega arith))
 
-mul-refuted-by : tie.Need-mul-refuted-by Inv-loop μ-loop
-mul-refuted-by c = omega arith
-
-mul-refuted-by-2 : tie.Need-mul-refuted-by-2 Inv-loop μ-loop
-mul-refuted-by-2 c = search needs
-
-shared-slice-read-refuted-by : tie.Need-shared-slice-read-refuted-by Inv-loop μ-loop
-shared-slice-read-refuted-by c = omega arith
-
-mul-refuted-by-3 : tie.Need-mul-refuted-by-3 Inv-loop μ-loop
-mul-refuted-by-3 c = omega arith
-
-add-refuted-by : tie.Need-add-refuted-by Inv-loop μ-loop
-add-refuted-by c = omega arith
-
-mul-refuted-by-4 : tie.Need-mul-refuted-by-4 Inv-loop μ-loop
-mul-refuted-by-4 c = search needs
-
-shared-slice-read-refuted-by-2 : tie.Need-shared-slice-read-refuted-by-2 Inv-loop μ-loop
-shared-slice-read-refuted-by-2 c = omega arith
-
-refuted-by-requires : tie.Need-refuted-by-requires Inv-loop μ-loop
-refuted-by-requires c κs = search needs
-
 returns : tie.Need-returns Inv-loop μ-loop
 returns c rs =
     let l = c .before .before .before .before .before .loop in
@@ -64,12 +40,6 @@ returns c rs =
       ap (λ os. firstRefuting rs os r) (pairs-at object (a .rows .now) (a .count) (l .place) h)
           ∙ first-found rs r _ _ (sym (c .before .refuted-by .ensures rs) ∙ c .if1 .taken),
     )
-
-add-place : tie.Need-add-place Inv-loop μ-loop
-add-place c = omega arith
-
-loop-less : tie.Need-loop-less Inv-loop μ-loop
-loop-less c = omega arith
 
 loop-again : tie.Need-loop-again Inv-loop μ-loop
 loop-again c =
@@ -105,16 +75,16 @@ refuting-among-spec =
     Inv-loop
     μ-loop
     loop-holds
-    mul-refuted-by
-    mul-refuted-by-2
-    shared-slice-read-refuted-by
-    mul-refuted-by-3
-    add-refuted-by
-    mul-refuted-by-4
-    shared-slice-read-refuted-by-2
-    refuted-by-requires
+    (λ c. omega arith)
+    (λ c. search needs)
+    (λ c. omega arith)
+    (λ c. omega arith)
+    (λ c. omega arith)
+    (λ c. search needs)
+    (λ c. omega arith)
+    (λ c κs. search needs)
     returns
-    add-place
-    loop-less
+    (λ c. omega arith)
+    (λ c. omega arith)
     loop-again
     returns-2)

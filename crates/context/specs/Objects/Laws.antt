@@ -74,6 +74,19 @@ module _ (rs : List (Implication ℕ)) (o : Object) where
 abbrev pub whole : ℕ → List ℕ → ℕ
 whole count ws = min count (length ws / 2)
 
+-- a test that no object without no marks passes: what is counted past the whole objects of a slice adds nothing
+module _ (f : Object → Bool) (idle : (a : ℕ) → f (object a 0) ≡ false) (count : ℕ) (ws : List ℕ) where
+  past : (t : List Object) × (objectsOf count ws ≡ objectsOf (whole count ws) ws ++ t) × All (λ o. f o ≡ false) t
+  past = pairs-whole object (λ o. f o ≡ false) idle count ws
+
+  pub lowest-whole : lowest f (objectsOf (whole count ws) ws) < whole count ws → lowest f (objectsOf count ws) ≡ lowest f (objectsOf (whole count ws) ws)
+  lowest-whole h = ap (lowest f) (past .1) ∙ lowest-append-found f (objectsOf (whole count ws) ws) (past .0) (rw length-pairs h)
+
+  pub lowest-none : whole count ws ≤ lowest f (objectsOf (whole count ws) ws) → lowest f (objectsOf count ws) ≡ count
+  lowest-none h =
+      ap (lowest f) (past .1) ∙ lowest-append-none f (objectsOf (whole count ws) ws) (past .0) (rw length-pairs h) (past .2)
+      ∙ ap length (sym (past .1)) ∙ length-pairs object count ws
+
 module _ (rs : List (Implication ℕ)) (r : Implication ℕ) where
   -- the first object refutes, or it is passed
   pub first-found : (o : Object) (os : List Object) → refutes rs o r ≡ true → firstRefuting rs (o ∷ os) r ≡ 0
@@ -84,28 +97,21 @@ module _ (rs : List (Implication ℕ)) (r : Implication ℕ) where
   unfolding firstRefuting
   first-passed o os e = lowest-passed (λ c. refutes rs c r) o os e
 
-  module _ (count : ℕ) (ws : List ℕ) where
-    -- what is counted past the whole objects of a slice refutes nothing
-    past : (t : List Object) × (objectsOf count ws ≡ objectsOf (whole count ws) ws ++ t) × All (λ o. refutes rs o r ≡ false) t
-    past =
-        let t = pairs-whole object (λ o. lacks rs o ≡ 0) (λ a. lacks-written rs (object a 0)) count ws in
-        (t .0, t .1, λ o m. spares rs o r (λ h. lacks-none rs o (t .2 o m) (r .conclusion)))
+  -- what is counted past the whole objects of a slice refutes nothing
+  past-spares : (a : ℕ) → refutes rs (object a 0) r ≡ false
+  past-spares a = spares rs (object a 0) r (λ h. lacks-none rs (object a 0) (lacks-written rs (object a 0)) (r .conclusion))
 
+  module _ (count : ℕ) (ws : List ℕ) where
     -- where a whole object refutes, the place among these is the place among all that are counted
     pub first-whole : firstRefuting rs (objectsOf (whole count ws) ws) r < whole count ws
         → firstRefuting rs (objectsOf count ws) r ≡ firstRefuting rs (objectsOf (whole count ws) ws) r
     unfolding firstRefuting
-    first-whole h =
-        ap (lowest (λ o. refutes rs o r)) (past .1)
-        ∙ lowest-append-found _ (objectsOf (whole count ws) ws) (past .0) (rw length-pairs h)
+    first-whole h = lowest-whole (λ o. refutes rs o r) past-spares count ws h
 
     -- where none of them refutes, none that is counted does
     pub first-none : whole count ws ≤ firstRefuting rs (objectsOf (whole count ws) ws) r → firstRefuting rs (objectsOf count ws) r ≡ count
     unfolding firstRefuting
-    first-none h =
-        ap (lowest (λ o. refutes rs o r)) (past .1)
-        ∙ lowest-append-none _ (objectsOf (whole count ws) ws) (past .0) (rw length-pairs h) (past .2)
-        ∙ ap length (sym (past .1)) ∙ length-pairs object count ws
+    first-none h = lowest-none (λ o. refutes rs o r) past-spares count ws h
 
 -- ---- marks
 

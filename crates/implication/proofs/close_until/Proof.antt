@@ -34,12 +34,6 @@ round c = pass-both _ _ (c .before .before .pass-until .ensures) (c .pass-until2
 loop-holds : tie.Need-loop-holds Inv-loop μ-loop
 loop-holds c = (search needs, refl)
 
-pass-until-requires : tie.Need-pass-until-requires Inv-loop μ-loop
-pass-until-requires c κs = search needs
-
-pass-until-requires-2 : tie.Need-pass-until-requires-2 Inv-loop μ-loop
-pass-until-requires-2 c κs = search needs
-
 returns : tie.Need-returns Inv-loop μ-loop
 returns c =
     let d = c .before in
@@ -72,9 +66,9 @@ close-until-spec =
     Inv-loop
     μ-loop
     loop-holds
-    pass-until-requires
+    (λ c κs. search needs)
     returns
-    pass-until-requires-2
+    (λ c κs. search needs)
     returns-2
     returns-3
     loop-less

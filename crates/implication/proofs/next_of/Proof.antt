@@ -69,12 +69,6 @@ given c =
     c .before .raised .ensures ∙ mod-eq-of-lt (lt-of-lt-of-le (raise-lt (set d) (at d)) (pow-mono l)) in
     rw (e, stop c) at (c .close-until .ensures)
 
-smaller-requires : tie.Need-smaller-requires Inv-loop μ-loop
-smaller-requires c κs = search needs
-
-smaller-requires-2 : tie.Need-smaller-requires-2 Inv-loop μ-loop
-smaller-requires-2 c κs = search needs
-
 loop-holds : tie.Need-loop-holds Inv-loop μ-loop
 loop-holds c =
     let a = c .before .before .before .before .args in (
@@ -84,24 +78,6 @@ loop-holds c =
           ∙ sym (next-whole (a .background .now) (a .list .now) (a .count) (min (a .n) 64) (a .set)),
     )
 
-sub-j : tie.Need-sub-j Inv-loop μ-loop
-sub-j c = omega arith
-
-digit-of-requires : tie.Need-digit-of-requires Inv-loop μ-loop
-digit-of-requires c κs = search needs
-
-full-set-requires : tie.Need-full-set-requires Inv-loop μ-loop
-full-set-requires c κs = search needs
-
-difference-requires : tie.Need-difference-requires Inv-loop μ-loop
-difference-requires c κs = search needs
-
-raised-requires : tie.Need-raised-requires Inv-loop μ-loop
-raised-requires c κs = search needs
-
-close-until-requires : tie.Need-close-until-requires Inv-loop μ-loop
-close-until-requires c κs = search needs
-
 returns : tie.Need-returns Inv-loop μ-loop
 returns c =
     let g = c .before in
@@ -110,9 +86,6 @@ returns c =
     (sym (g .before .before .before .before .before .digit-of .ensures) ∙ g .before .before .before .before .if1 .taken)
     (ap (bitAnd (g .close-until .result)) (sym (stop g)) ∙ c .if2 .taken)) ∙ turn d
 
-loop-less : tie.Need-loop-less Inv-loop μ-loop
-loop-less c = omega arith
-
 loop-again : tie.Need-loop-again Inv-loop μ-loop
 loop-again c =
     let g = c .before in
@@ -120,9 +93,6 @@ loop-again c =
       omega arith,
       sym (next-left (rules d) (set d) (at d) (given g) (λ e. c .if2 .left (ap (bitAnd (g .close-until .result)) (stop g) ∙ e))) ∙ turn d,
     )
-
-loop-less-2 : tie.Need-loop-less-2 Inv-loop μ-loop
-loop-less-2 c = omega arith
 
 loop-again-2 : tie.Need-loop-again-2 Inv-loop μ-loop
 loop-again-2 c =
@@ -143,18 +113,18 @@ next-of-spec =
     (tie.spec
     Inv-loop
     μ-loop
-    smaller-requires
-    smaller-requires-2
+    (λ c κs. search needs)
+    (λ c κs. search needs)
     loop-holds
-    sub-j
-    digit-of-requires
-    full-set-requires
-    difference-requires
-    raised-requires
-    close-until-requires
+    (λ c. omega arith)
+    (λ c κs. search needs)
+    (λ c κs. search needs)
+    (λ c κs. search needs)
+    (λ c κs. search needs)
+    (λ c κs. search needs)
     returns
-    loop-less
+    (λ c. omega arith)
     loop-again
-    loop-less-2
+    (λ c. omega arith)
     loop-again-2
     returns-2)

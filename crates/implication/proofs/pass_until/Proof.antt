@@ -45,34 +45,10 @@ turn c t r e p =
 loop-holds : tie.Need-loop-holds Inv-loop μ-loop
 loop-holds c = (omega arith, λ r p. rw sub-zero at p)
 
-mul-at : tie.Need-mul-at Inv-loop μ-loop
-mul-at c = omega arith
-
-mul-premise : tie.Need-mul-premise Inv-loop μ-loop
-mul-premise c = omega arith
-
-shared-slice-read-premise : tie.Need-shared-slice-read-premise Inv-loop μ-loop
-shared-slice-read-premise c = omega arith
-
-add-t : tie.Need-add-t Inv-loop μ-loop
-add-t c = omega arith
-
-mul-t : tie.Need-mul-t Inv-loop μ-loop
-mul-t c = omega arith
-
-shared-slice-read-t : tie.Need-shared-slice-read-t Inv-loop μ-loop
-shared-slice-read-t c = omega arith
-
 returns : tie.Need-returns Inv-loop μ-loop
 returns c =
     let d = c .before .before .before in
     turn d _ _ (sym (fire-taken (here d) _ (and→sub _ _ (c .before .before .if1 .taken)))) (pass-met _ _ _ (c .if2 .taken))
-
-add-i : tie.Need-add-i Inv-loop μ-loop
-add-i c = omega arith
-
-loop-less : tie.Need-loop-less Inv-loop μ-loop
-loop-less c = omega arith
 
 loop-again : tie.Need-loop-again Inv-loop μ-loop
 loop-again c =
@@ -95,14 +71,14 @@ pass-until-spec =
     Inv-loop
     μ-loop
     loop-holds
-    mul-at
-    mul-premise
-    shared-slice-read-premise
-    add-t
-    mul-t
-    shared-slice-read-t
+    (λ c. omega arith)
+    (λ c. omega arith)
+    (λ c. omega arith)
+    (λ c. omega arith)
+    (λ c. omega arith)
+    (λ c. omega arith)
     returns
-    add-i
-    loop-less
+    (λ c. omega arith)
+    (λ c. omega arith)
     loop-again
     returns-2)

@@ -3,21 +3,24 @@ use mathlib.Core.Path.{_≡_, refl, sym, ap, _∙_}
 use mathlib.Core.Bool.{Bool, true, false, not, _||_, true≢false}
 use mathlib.Core.List.{List, [], _∷_, _++_, append-nil}
 use mathlib.Core.Option.{Option, none, some, Option·some-ne-none}
-use Prim.Native.Nat.{ℕ}
-use lib.Dec.{eqb}
-use borrow.Author.Tests.{eqb-true, eqb-false, not-true, not-false}
+use Prim.Native.Nat.{ℕ, _/_, _≤_}
+use lib.ListN.{length, take, drop}
+use lib.Dec.{eqb, ltb}
+use borrow.Author.Tests.{eqb-true, eqb-false, not-false, ltb-false}
 use Rattle.theory.specs.Lists.{All}
 use Rattle.theory.specs.Lists.Laws.{all-take}
 use Rattle.theory.specs.Implications.{Implication, Over}
 use Rattle.attribute_set.specs.Sets.{Sub, inside, full}
-use Rattle.attribute_set.specs.Sets.Laws.{inside-sub}
+use Rattle.attribute_set.specs.Sets.Laws.{inside-sub, none-sub, sub-inside}
 use Rattle.attribute_set.specs.Words.{words}
-use Rattle.implication.specs.Closure.{closure}
+use Rattle.implication.specs.Closure.{implication, closure}
 use Rattle.context.specs.Places.{anywhere}
 use Rattle.context.specs.Places.Laws.{anywhere-false}
+use Rattle.context.specs.Places.Search.{anywhere-cons, anywhere-append}
 use Rattle.context.specs.Objects.{Object, contradicts}
 use Rattle.session.specs.declared.Refusal.{Refusal}
-use Rattle.machine.specs.Checks.{State, Check, firstFailing, strangeObject, strangeImplication, outsideM, sessionChecks, force, reachOf, questionStands}
+use Rattle.session.specs.Refusals.{refusal}
+use Rattle.machine.specs.Checks.{State, Check, firstFailing, strange, strangeObject, strangeImplication, outsideM, sessionChecks, force, reachOf, Standing, whole, tight, open-question, standing, questionStands}
 
 pub or-false : (a b : Bool) → (a || b) ≡ false → (a ≡ false) × (b ≡ false)
 or-false true b e = absurd (true≢false e)
@@ -68,6 +71,18 @@ passed-append xs ys e = split xs (passed (xs ++ ys) e)
     split [] p = (tt, p)
     split (c ∷ zs) p = let t = split zs (p .1) in ((p .0, t .0), t .1)
 
+-- a check that fails decides, whatever stands behind it
+pub failing-first : (xs ys : List Check) (r : Refusal) → firstFailing xs ≡ some r → firstFailing (xs ++ ys) ≡ some r
+unfolding firstFailing
+failing-first [] ys r e = absurd (Option·some-ne-none _ (sym e))
+failing-first (c ∷ xs) ys r e = go (c .fails) (failing-first xs ys r) e
+  where
+    go : (b : Bool) → (firstFailing xs ≡ some r → firstFailing (xs ++ ys) ≡ some r)
+        → _≡_ {A = Option Refusal} (elim b [ true ↦ some (refusal (c .number) (c .place)) | false ↦ firstFailing xs ]) (some r)
+        → _≡_ {A = Option Refusal} (elim b [ true ↦ some (refusal (c .number) (c .place)) | false ↦ firstFailing (xs ++ ys) ]) (some r)
+    go true ih h = h
+    go false ih h = ih h
+
 -- ---- checks 1 to 7
 
 -- the object's marks are inside M
@@ -76,13 +91,13 @@ pub record InM (n : ℕ) (o : Object) : Type 0 where
   pub no-marks : Sub (o .no-marks) (full n)
 
 pub familiar-object : (n : ℕ) (o : Object) → strangeObject n o ≡ false → InM n o
-unfolding strangeObject
+unfolding strange
 familiar-object n o e =
     let t = or-false (not (inside (o .yes-marks) (full n))) _ e in
     record { yes-marks = inside-sub _ _ (not-false _ (t .0)); no-marks = inside-sub _ _ (not-false _ (t .1)) }
 
 pub familiar-implication : (n : ℕ) (r : Implication ℕ) → strangeImplication n r ≡ false → Over words (full n) r
-unfolding strangeImplication
+unfolding strange
 familiar-implication n r e =
     let t = or-false (not (inside (r .premise) (full n))) _ e in
     record { premise = inside-sub _ _ (not-false _ (t .0)); conclusion = inside-sub _ _ (not-false _ (t .1)) }
@@ -108,7 +123,54 @@ valid s asked p =
       closed = eqb-true _ _ (not-false _ (p .1 .1 .1 .1 .1 .1 .0));
     }
 
--- ---- the standing question
+module _ (s : State) (asked : List (Implication ℕ)) where
+  -- what passed sizes give
+  pub sizes-fit : firstFailing (take 3 (sessionChecks s asked)) ≡ none
+      → (s .n ≤ 64) × (length (s .rows) ≤ s .lent .rows / 2) × (length (s .list) ≤ s .lent .list / 2)
+  unfolding sessionChecks
+  sizes-fit e =
+      let p = passed (take 3 (sessionChecks s asked)) e in
+      let one = or-false (eqb (s .n) 0) _ (p .0) in
+      let three = or-false (ltb (s .lent .rows / 2) (length (s .rows))) _ (p .1 .1 .0) in
+      (ltb-false _ _ (one .1), ltb-false _ _ (three .0), ltb-false _ _ (three .1))
+
+  pub checked-small : firstFailing (sessionChecks s asked) ≡ none
+      → (s .n ≤ 64) × (length (s .rows) ≤ s .lent .rows / 2) × (length (s .list) ≤ s .lent .list / 2)
+  unfolding sessionChecks
+  checked-small e =
+      sizes-fit (none-failing _ (passed-append (take 3 (sessionChecks s asked)) (drop 3 (sessionChecks s asked)) e .0))
+
+-- the empty implication lies inside every M
+unasked-outside : (n : ℕ) → anywhere (strangeImplication n) (implication 0 0 ∷ []) ≡ anywhere (strangeImplication n) []
+unfolding strange
+unasked-outside n =
+    anywhere-cons (strangeImplication n) (implication 0 0) [] ∙ rw (sub-inside (none-sub (full n)))
+
+-- asking about the empty implication asks nothing
+pub unasked : (s : State) → firstFailing (sessionChecks s (implication 0 0 ∷ [])) ≡ firstFailing (sessionChecks s [])
+unfolding sessionChecks outsideM
+unasked s =
+    let f = strangeImplication (s .n) in
+    let e : anywhere f (force s ++ (implication 0 0 ∷ [])) ≡ anywhere f (force s ++ []) =
+    anywhere-append f (force s) _ ∙ ap (λ b. anywhere f (force s) || b) (unasked-outside (s .n)) ∙ sym (anywhere-append f (force s) []) in
+    rw e
+
+-- ---- how the current set stands
+
+pub standing-cases : (s : State) (P : Standing → Type 0) → (s .current ≡ full (s .n) → P whole)
+    → ((s .current ≡ full (s .n) → ⊥) → reachOf s ≡ s .current → P tight)
+    → ((s .current ≡ full (s .n) → ⊥) → (reachOf s ≡ s .current → ⊥) → P open-question) → P (standing s)
+unfolding standing
+standing-cases s P done moves asks = go (eqb (s .current) (full (s .n))) refl
+  where
+    inner : (b : Bool) → eqb (reachOf s) (s .current) ≡ b → (s .current ≡ full (s .n) → ⊥) → P (elim b [ true ↦ tight | false ↦ open-question ])
+    inner true e n = moves n (eqb-true _ _ e)
+    inner false e n = asks n (eqb-false _ _ e)
+
+    go : (b : Bool) → eqb (s .current) (full (s .n)) ≡ b
+        → P (elim b [ true ↦ whole | false ↦ elim (eqb (reachOf s) (s .current)) [ true ↦ tight | false ↦ open-question ] ])
+    go true e = done (eqb-true _ _ e)
+    go false e = inner (eqb (reachOf s) (s .current)) refl (eqb-false _ _ e)
 
 pub record Stands (s : State) : Type 0 where
   pub below : s .current ≡ full (s .n) → ⊥
@@ -116,9 +178,5 @@ pub record Stands (s : State) : Type 0 where
 
 pub stands : (s : State) → questionStands s ≡ true → Stands s
 unfolding questionStands
-stands s e = go (eqb (s .current) (full (s .n))) refl e
-  where
-    go : (b : Bool) → eqb (s .current) (full (s .n)) ≡ b
-        → elim b as (λ x. Bool) [ true ↦ false | false ↦ not (eqb (reachOf s) (s .current)) ] ≡ true → Stands s
-    go true f h = absurd (true≢false (sym h))
-    go false f h = record { below = eqb-false _ _ f; differs = eqb-false _ _ (not-true _ h) }
+stands s = standing-cases s (λ x. elim x as (λ y. Bool) [ whole ↦ false | tight ↦ false | open-question ↦ true ] ≡ true → Stands s)
+    (λ e h. absurd (true≢false (sym h))) (λ n e h. absurd (true≢false (sym h))) (λ n e h. record { below = n; differs = e })

@@ -1,18 +1,16 @@
 -- A call by cases: what it does where its checks pass, and a refusal, which leaves the state as it is; a step by cases.
 use mathlib.Core.Path.{_≡_, refl}
-use mathlib.Core.Bool.{Bool, true, false}
 use mathlib.Core.List.{List, []}
 use mathlib.Core.Option.{Option, none, some}
 use Prim.Native.Nat.{ℕ}
 use native.Mathlib.Omega.{arith}
-use lib.Dec.{eqb}
-use borrow.Author.Tests.{eqb-true, eqb-false}
 use Rattle.theory.specs.Implications.{Implication}
 use Rattle.attribute_set.specs.Sets.{full}
 use Rattle.implication.specs.Next.{next}
 use Rattle.context.specs.Objects.{Object}
 use Rattle.session.specs.declared.Refusal.{Refusal}
-use Rattle.machine.specs.Checks.{Lent, State, firstFailing, sessionChecks, force, reachOf, question}
+use Rattle.machine.specs.Checks.{Lent, State, firstFailing, sessionChecks, force, reachOf, whole, tight, open-question, question}
+use Rattle.machine.specs.Checks.Laws.{standing-cases}
 use Rattle.machine.specs.Machine.{Call, step, finished, moved, asked, refused, Turn, turn, moveTo, performStep, performed, checksOf, perform, Opening, opened, rejected, opening, openingState}
 
 module _ (s : State) (c : Call) where
@@ -48,23 +46,12 @@ module _ (s : State) where
       → ((s .current ≡ full (s .n) → ⊥) → reachOf s ≡ s .current → P (turn moved (moveTo s (next (force s) (s .n) (s .current)))))
       → ((s .current ≡ full (s .n) → ⊥) → (reachOf s ≡ s .current → ⊥) → P (turn (asked (question s)) s)) → P (performStep s)
   unfolding performStep
-  step-cases P done moves asks = go (eqb (s .current) (full (s .n))) refl
-    where
-      inner : (b : Bool) → eqb (reachOf s) (s .current) ≡ b → (s .current ≡ full (s .n) → ⊥)
-          → P (elim b [ true ↦ turn moved (moveTo s (next (force s) (s .n) (s .current))) | false ↦ turn (asked (question s)) s ])
-      inner true e n = moves n (eqb-true _ _ e)
-      inner false e n = asks n (eqb-false _ _ e)
-
-      go : (b : Bool) → eqb (s .current) (full (s .n)) ≡ b
-          → P (elim b [
-            | true ↦ turn finished s
-            | false ↦ elim (eqb (reachOf s) (s .current)) [
-              | true ↦ turn moved (moveTo s (next (force s) (s .n) (s .current)))
-              | false ↦ turn (asked (question s)) s
-            ]
-          ])
-      go true e = done (eqb-true _ _ e)
-      go false e = inner (eqb (reachOf s) (s .current)) refl (eqb-false _ _ e)
+  step-cases P done moves asks =
+      standing-cases s (λ x. P (elim x as (λ y. Turn) [
+        | whole ↦ turn finished s
+        | tight ↦ turn moved (moveTo s (next (force s) (s .n) (s .current)))
+        | open-question ↦ turn (asked (question s)) s
+      ])) done moves asks
 
   -- a step answers Finished only at M
   pub finished-full : perform s step .answer ≡ finished → s .current ≡ full (s .n)

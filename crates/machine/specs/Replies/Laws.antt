@@ -66,13 +66,13 @@ question-asked s e h =
     ∙ step-cases s (λ t. askedBy (t .answer) ≡ some (question s)) (λ f. absurd (h .below f)) (λ a b. absurd (h .differs b)) (λ a b. refl)
 
 -- the reply, of a turn
-abbrev replyAt : State → Call → Turn → List Reply
+abbrev pub replyAt : State → Call → Turn → List Reply
 replyAt s c t = elim (isTaken (t .answer)) [ true ↦ madeBy s c | false ↦ [] ]
 
 -- what one call adds to rows and list
-record Adds (s : State) (c : Call) (t : Turn) : Type 0 where
-  rows : t .after .rows ≡ s .rows ++ offeredIn (replyAt s c t)
-  list : t .after .list ≡ s .list ++ agreedIn (replyAt s c t)
+pub record Adds (s : State) (c : Call) (t : Turn) : Type 0 where
+  pub rows : t .after .rows ≡ s .rows ++ offeredIn (replyAt s c t)
+  pub list : t .after .list ≡ s .list ++ agreedIn (replyAt s c t)
 
 adds-nothing : (s : State) (c : Call) (a : Answer) (s′ : State) → isTaken a ≡ false → s′ .rows ≡ s .rows → s′ .list ≡ s .list
     → Adds s c (turn a s′)
@@ -107,7 +107,7 @@ performed-adds s (reject o) e = record { rows = refl; list = sym (append-nil (s 
 performed-adds s (follow r) e = adds-nothing s (follow r) (followed (follows (force s) r)) s refl refl refl
 performed-adds s (refute r) e = adds-nothing s (refute r) _ s (refuted-untaken _ _) refl refl
 
-perform-adds : (s : State) (c : Call) → Adds s c (perform s c)
+pub perform-adds : (s : State) (c : Call) → Adds s c (perform s c)
 unfolding isTaken
 perform-adds s c = perform-cases s c (Adds s c) (performed-adds s c) (λ r e. adds-nothing s c (refused r) s refl refl refl)
 

@@ -21,7 +21,7 @@ use Rattle.context.specs.Objects.{Object, contradicts}
 use Rattle.context.specs.Objects.Laws.{apart-marked}
 use Rattle.context.specs.Tables.{Table, AgreesObject, AgreesImplication}
 use Rattle.context.specs.Tables.Laws.{no-contradiction}
-use Rattle.machine.specs.Checks.{State, force, badLength, mostAttributes, mostObjects, mostImplications, strangeObject, strangeImplication, outsideM, firstFailing, sessionChecks}
+use Rattle.machine.specs.Checks.{State, force, badLength, mostAttributes, mostObjects, mostImplications, strange, strangeObject, strangeImplication, outsideM, firstFailing, sessionChecks}
 use Rattle.machine.specs.Checks.Laws.{InM, Passed, none-failing}
 use Rattle.machine.specs.Demand3.Invariant.{Reached, current-in}
 
@@ -52,11 +52,11 @@ or-none a b e f = rw (e, f) refl
 
 -- marks inside M, and implications over M, are familiar
 pub in-familiar : (n : ℕ) (o : Object) → InM n o → strangeObject n o ≡ false
-unfolding strangeObject
+unfolding strange
 in-familiar n o h = or-none _ _ (ap not (sub-inside (h .yes-marks))) (ap not (sub-inside (h .no-marks)))
 
 over-familiar : (n : ℕ) (r : Implication ℕ) → Over words (full n) r → strangeImplication n r ≡ false
-unfolding strangeImplication
+unfolding strange
 over-familiar n r h = or-none _ _ (ap not (sub-inside (h .premise))) (ap not (sub-inside (h .conclusion)))
 
 -- a table agrees with its own rows

@@ -24,14 +24,14 @@ use Rattle.context.specs.Objects.Laws.{has-written, lacks-written, spares, apar
 use Rattle.context.specs.Reach.Laws.{reach-apart}
 use Rattle.context.specs.Tables.{AgreesImplication}
 use Rattle.context.specs.Tables.Laws.{no-contradiction}
-use Rattle.machine.specs.Checks.{State, check, force, reachOf, questionStands, question, withQuestion, mostAttributes, firstFailing, sessionChecks, yesChecks, noChecks}
-use Rattle.machine.specs.Checks.Laws.{or-false, Stands, passed, failing-nothing, failing-here, failing-later, failing-append}
+use Rattle.machine.specs.Checks.{State, check, force, reachOf, whole, tight, open-question, questionStands, question, withQuestion, mostAttributes, firstFailing, sessionChecks, yesChecks, noChecks}
+use Rattle.machine.specs.Checks.Laws.{or-false, standing-cases, Stands, passed, failing-nothing, failing-here, failing-later, failing-append}
 use Rattle.machine.specs.Machine.{Call, step, accept, reject, taken, turn, moveTo, afterYes, afterNo, performed, checksOf, perform}
 use Rattle.machine.specs.Machine.Laws.{perform-refused, perform-accepted, step-cases}
 use Rattle.machine.specs.Demand3.Invariant.{with-over}
-use Rattle.transcript.specs.Text.{yesLine, noLine, listLines, endLine, refusalLine}
+use Rattle.output_lines.specs.Lines.{yesLine, noLine, listLines, endLine, refusalLine}
 use Rattle.transcript.specs.Output.{Beat, more, last, replied, answered, stepped, beat}
-use Rattle.transcript.specs.Core.{counted, full-up, coreNo, coreYes, coreReply, coreBeat}
+use Rattle.transcript.specs.Core.{counted, noPlace, coreNo, coreYes, coreReply, coreBeat}
 use Rattle.transcript.specs.Core.Along.{Differ, Along, in-familiar, or-none, own-row, row-in, agrees-force, row-consistent, session-passes}
 
 -- ---- the row that refutes
@@ -61,6 +61,23 @@ module _ (table : List Object) (q : Implication ℕ) where
   pub none-refutes : ltb (firstRefuting [] table q) (length table) ≡ false → AgreesImplication table q
   unfolding firstRefuting
   none-refutes e = none-lowest _ table (ltb-false _ _ e)
+
+-- a reply is a no with a row that refutes, or a yes that the table agrees with
+pub reply-cases : (table : List Object) (s : State) (changes : ℕ) (q : Implication ℕ) (P : Beat → Type 0)
+    → ((number : ℕ) (o : Object) → Refuting table q o → P (coreNo s changes q number o)) → (AgreesImplication table q → P (coreYes s changes q))
+    → P (coreReply table s changes q)
+unfolding coreReply
+reply-cases table s changes q P refuted spared = go (ltb row (length table)) refl
+  where
+    row : ℕ
+    row = firstRefuting [] table q
+
+    o : Object
+    o = getD table row (object 0 0)
+
+    go : (b : Bool) → ltb row (length table) ≡ b → P (elim b [ true ↦ coreNo s changes q (row + 1) o | false ↦ coreYes s changes q ])
+    go true e = refuted (row + 1) o (row-refutes table q e)
+    go false e = spared (none-refutes table q e)
 
 -- rows that differ, all of a table, are no more than the table has
 few-different : (l table : List Object) → Pairwise Differ l → All (λ o. List·Memᴰ o table) l → length l ≤ length table
@@ -108,16 +125,18 @@ module _ (table : List Object) (s : State) (changes : ℕ) (a : Along table s ch
   replied-core : (c : Call) (after : State) (none-left : Bool) (line : List ℕ) (count count′ : ℕ) → count ≡ count′
       → firstFailing (checksOf s c) ≡ firstFailing (check 12 none-left 0 ∷ []) → performed s c ≡ turn taken after
       → replied line count (perform s c .answer) (perform s c .after)
-      ≡ elim none-left [ true ↦ last (line ++ refusalLine full-up) | false ↦ more line after count′ ]
+      ≡ elim none-left [ true ↦ last (line ++ refusalLine noPlace) | false ↦ more line after count′ ]
   replied-core c after true line count count′ k e p =
-      rw (perform-refused s c full-up (e ∙ failing-here (check 12 true 0) [] refl)) refl
+      rw (perform-refused s c noPlace (e ∙ failing-here (check 12 true 0) [] refl)) refl
   replied-core c after false line count count′ k e p =
       rw (perform-accepted s c (e ∙ failing-later (check 12 false 0) [] refl ∙ failing-nothing), p) (ap (more line after) k)
 
   module _ (t : Stands s) where
-    standing : not (questionStands s) ≡ false
+    stays : not (questionStands s) ≡ false
     unfolding questionStands
-    standing = rw (ne-eqb _ _ (t .below), questionStands) (rw (ne-eqb _ _ (t .differs)) refl)
+    stays =
+        standing-cases s (λ x. not (elim x as (λ y. Bool) [ whole ↦ false | tight ↦ false | open-question ↦ true ]) ≡ false)
+        (λ e. absurd (t .below e)) (λ ne e. absurd (t .differs e)) (λ ne d. refl)
 
     -- the checks of a no with a row of the table that refutes
     no-checks : (o : Object) → Refuting table (question s) o
@@ -128,14 +147,14 @@ module _ (table : List Object) (s : State) (changes : ℕ) (a : Along table s ch
         let fitting = or-none _ _ (in-familiar (s .n) o (row-in table s changes a o (r .member))) once in
         let refuting = ap not (refutes-same (force s) [] o (question s) ∙ r .refutes) in
         failing-append (sessionChecks s []) (noChecks s o) (passed _ (session-passes table s changes a))
-        ∙ failing-later _ _ standing ∙ failing-later _ _ fitting ∙ failing-later _ _ refuting
+        ∙ failing-later _ _ stays ∙ failing-later _ _ fitting ∙ failing-later _ _ refuting
         ∙ failing-later _ _ (row-consistent table s changes a o (r .member))
 
-    core-no : (o : Object) (row : ℕ) → Refuting table (question s) o
-        → replied (noLine (s .n) (question s) (row + 1)) changes (perform s (reject o) .answer) (perform s (reject o) .after)
-        ≡ coreNo s changes (question s) row o
+    core-no : (o : Object) (number : ℕ) → Refuting table (question s) o
+        → replied (noLine (s .n) (question s) number) changes (perform s (reject o) .answer) (perform s (reject o) .after)
+        ≡ coreNo s changes (question s) number o
     unfolding performed coreNo
-    core-no o row r = replied-core (reject o) (afterNo s o) _ _ changes changes refl (no-checks o r) refl
+    core-no o number r = replied-core (reject o) (afterNo s o) _ _ changes changes refl (no-checks o r) refl
 
     -- where the table agrees with the question no row of it contradicts, with the question in the list
     pub yes-consistent : AgreesImplication table (question s) → (o : Object) → List·Memᴰ o table → contradicts (withQuestion s) o ≡ false
@@ -150,7 +169,7 @@ module _ (table : List Object) (s : State) (changes : ℕ) (a : Along table s ch
     unfolding checksOf yesChecks
     yes-checks agrees =
         failing-append (sessionChecks s []) (yesChecks s) (passed _ (session-passes table s changes a))
-        ∙ failing-later _ _ standing
+        ∙ failing-later _ _ stays
         ∙ failing-later _ _ (all-anywhere _ (s .rows) (λ o m. yes-consistent agrees o (a .rows o m)))
 
     core-yes : AgreesImplication table (question s)
@@ -175,8 +194,8 @@ module _ (table : List Object) (s : State) (changes : ℕ) (a : Along table s ch
             → _≡_ {A = Beat} (elim b [
               | true ↦ replied (noLine (s .n) (question s) (row + 1)) changes (perform s (reject o) .answer) (perform s (reject o) .after)
               | false ↦ replied (yesLine (s .n) (question s)) (suc changes) (perform s accept .answer) (perform s accept .after)
-            ]) (elim b [ true ↦ coreNo s changes (question s) row o | false ↦ coreYes s changes (question s) ])
-        go true e = core-no o row (row-refutes table (question s) e)
+            ]) (elim b [ true ↦ coreNo s changes (question s) (row + 1) o | false ↦ coreYes s changes (question s) ])
+        go true e = core-no o (row + 1) (row-refutes table (question s) e)
         go false e = core-yes (none-refutes table (question s) e)
 
 -- ---- the beat

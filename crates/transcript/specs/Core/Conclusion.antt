@@ -7,38 +7,38 @@ use mathlib.Core.Bool.{Bool, true, false}
 use mathlib.Core.List.{List, [], _++_, append-assoc}
 use Prim.Native.Nat.{ℕ, zero, suc, _+_, _/_, _≤_, _<_}
 use native.Mathlib.Omega.{arith}
-use lib.ListN.{length, getD}
-use lib.Dec.{ltb, leb}
-use borrow.Author.Tests.{eq-eqb, leb-true}
+use lib.ListN.{length}
+use lib.Dec.{leb}
+use borrow.Author.Tests.{leb-true}
 use Rattle.theory.specs.Lists.{All}
 use Rattle.theory.specs.Implications.{Implication}
 use Rattle.attribute_set.specs.Sets.{full}
 use Rattle.implication.specs.Closure.{follows}
-use Rattle.context.specs.Objects.{Object, object, firstRefuting}
+use Rattle.context.specs.Objects.{Object}
 use Rattle.context.specs.Tables.{Table}
 use Rattle.context.specs.Tables.Laws.{follows-tables}
 use Rattle.machine.specs.Checks.{Lent, State, force, question}
-use Rattle.machine.specs.Machine.{step, performStep, performed, checksOf, opening, opened, afterNo, afterYes}
+use Rattle.machine.specs.Machine.{step, finished, performed, checksOf, opening, opened, afterNo, afterYes}
 use Rattle.machine.specs.Machine.Laws.{perform-accepted, step-cases, opened-is}
 use Rattle.machine.specs.Demand3.{OverM, Finished}
 use Rattle.machine.specs.Demand3.Theorem.{decided, shortest, unrefuted-by}
-use Rattle.transcript.specs.Text.{yesLine, noLine, listLines, endLine, refusalLine}
+use Rattle.output_lines.specs.Lines.{yesLine, noLine, listLines, endLine, refusalLine}
 use Rattle.transcript.specs.Output.{Beat, more, last, beat, beats, enough}
 use Rattle.transcript.specs.Output.Ends.{measure, measure-enough, beat-falls}
-use Rattle.transcript.specs.Core.{counted, full-up, coreNo, coreYes, coreReply, coreBeat}
+use Rattle.transcript.specs.Core.{counted, noPlace, coreNo, coreYes, coreReply, coreBeat}
 use Rattle.transcript.specs.Ending.{Decides, Concluded, Full}
 use Rattle.transcript.specs.Core.Along.{Along, own-row, agrees-force, session-passes}
-use Rattle.transcript.specs.Core.Beats.{Refuting, row-refutes, rows-fewer, core-last, core-moved, core-asked, core-beat}
+use Rattle.transcript.specs.Core.Beats.{Refuting, reply-cases, rows-fewer, core-last, core-moved, core-asked, core-beat}
 use Rattle.transcript.specs.Core.Kept.{core-kept, opened-along}
 
 -- the same, and the reply is a yes, or the table has more rows than there are places lent for them
-pub record Refused (n : ℕ) (table : List Object) (lent : Lent) (text : List ℕ) : Type 0 where
+pub record RefusedReply (n : ℕ) (table : List Object) (lent : Lent) (text : List ℕ) : Type 0 where
   pub refused : Full n text
   pub short : (refused .reply ≡ yesLine n (refused .question)) ⊎ (lent .rows / 2 < length table)
 
 -- how the output ends
 abbrev pub Ends : ℕ → List Object → Lent → List ℕ → Type 0
-Ends n table lent text = Concluded n table text ⊎ Refused n table lent text
+Ends n table lent text = Concluded n table text ⊎ RefusedReply n table lent text
 
 -- ---- at M
 
@@ -49,8 +49,10 @@ module _ (table : List Object) (s : State) (changes : ℕ) (a : Along table s ch
 
   module _ (end : s .current ≡ full (s .n)) where
     is-finished : Finished s
-    unfolding performed checksOf performStep
-    is-finished = rw (perform-accepted s step (session-passes table s changes a), eq-eqb _ _ end, performStep) refl
+    unfolding performed checksOf
+    is-finished =
+        ap (λ t. t .answer) (perform-accepted s step (session-passes table s changes a))
+        ∙ step-cases s (λ t. t .answer ≡ finished) (λ e. refl) (λ ne e. absurd (ne end)) (λ ne d. absurd (ne end))
 
     list-decides : Decides (s .n) table (s .list)
     list-decides r i = (
@@ -113,58 +115,46 @@ same-line line line′ e = cc
 
 module _ (table : List Object) (s : State) (changes : ℕ) (a : Along table s changes) (line : List ℕ) where
   -- a reply that ends the interview is refused for want of a place; the row of a no is one more than those filed
-  no-refused : (row : ℕ) (o : Object) → Refuting table (question s) o → coreNo s changes (question s) row o ≡ last line
-      → Refused (s .n) table (s .lent) line
+  no-refused : (number : ℕ) (o : Object) → Refuting table (question s) o → coreNo s changes (question s) number o ≡ last line
+      → RefusedReply (s .n) table (s .lent) line
   unfolding coreNo
-  no-refused row o r = go (leb (s .lent .rows / 2) (length (s .rows))) refl
+  no-refused number o r = go (leb (s .lent .rows / 2) (length (s .rows))) refl
     where
       go : (b : Bool) → leb (s .lent .rows / 2) (length (s .rows)) ≡ b
           → _≡_ {A = Beat} (elim b [
-            | true ↦ last (noLine (s .n) (question s) (row + 1) ++ refusalLine full-up)
-            | false ↦ more (noLine (s .n) (question s) (row + 1)) (afterNo s o) changes
-          ]) (last line) → Refused (s .n) table (s .lent) line
+            | true ↦ last (noLine (s .n) (question s) number ++ refusalLine noPlace)
+            | false ↦ more (noLine (s .n) (question s) number) (afterNo s o) changes
+          ]) (last line) → RefusedReply (s .n) table (s .lent) line
       go true f e = record {
         refused = record {
           before = [];
           question = question s;
-          reply = noLine (s .n) (question s) (row + 1);
-          replies = inr (row + 1, refl);
+          reply = noLine (s .n) (question s) number;
+          replies = inr (number, refl);
           whole = sym (same-line _ _ e);
         };
         short = inr (omega (arith, leb-true (s .lent .rows / 2) (length (s .rows)) f, rows-fewer table s o r changes a));
       }
       go false f e = absurd (not-last _ _ _ _ e)
 
-  yes-refused : coreYes s changes (question s) ≡ last line → Refused (s .n) table (s .lent) line
+  yes-refused : coreYes s changes (question s) ≡ last line → RefusedReply (s .n) table (s .lent) line
   unfolding coreYes
   yes-refused = go (leb (s .lent .list / 2) (length (s .list)))
     where
       go : (b : Bool)
           → _≡_ {A = Beat} (elim b [
-            | true ↦ last (yesLine (s .n) (question s) ++ refusalLine full-up)
+            | true ↦ last (yesLine (s .n) (question s) ++ refusalLine noPlace)
             | false ↦ more (yesLine (s .n) (question s)) (afterYes s) (counted changes)
-          ]) (last line) → Refused (s .n) table (s .lent) line
+          ]) (last line) → RefusedReply (s .n) table (s .lent) line
       go true e = record {
         refused = record { before = []; question = question s; reply = yesLine (s .n) (question s); replies = inl refl; whole = sym (same-line _ _ e) };
         short = inl refl;
       }
       go false e = absurd (not-last _ _ _ _ e)
 
-  reply-refused : coreReply table s changes (question s) ≡ last line → Refused (s .n) table (s .lent) line
-  unfolding coreReply
-  reply-refused = go (ltb row (length table)) refl
-    where
-      row : ℕ
-      row = firstRefuting [] table (question s)
-
-      o : Object
-      o = getD table row (object 0 0)
-
-      go : (b : Bool) → ltb row (length table) ≡ b
-          → _≡_ {A = Beat} (elim b [ true ↦ coreNo s changes (question s) row o | false ↦ coreYes s changes (question s) ]) (last line)
-          → Refused (s .n) table (s .lent) line
-      go true f e = no-refused row o (row-refutes table (question s) f) e
-      go false f e = yes-refused e
+  reply-refused : coreReply table s changes (question s) ≡ last line → RefusedReply (s .n) table (s .lent) line
+  reply-refused =
+      reply-cases table s changes (question s) (λ b. b ≡ last line → RefusedReply (s .n) table (s .lent) line) no-refused (λ agrees. yes-refused)
 
   last-ends : coreBeat table s changes ≡ last line → Ends (s .n) table (s .lent) line
   last-ends k =

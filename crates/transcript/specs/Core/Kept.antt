@@ -4,27 +4,27 @@ use mathlib.Core.Bool.{Bool, true, false}
 use mathlib.Core.List.{List, [], _∷_, _++_}
 use Prim.Native.Nat.{ℕ, _+_, _/_}
 use native.Mathlib.Omega.{arith}
-use lib.ListN.{length, length-append, getD}
-use lib.Dec.{ltb, leb}
+use lib.ListN.{length, length-append}
+use lib.Dec.{leb}
 use borrow.Author.Tests.{leb-false}
 use Rattle.theory.specs.Lists.Laws.{all-nil, all-snoc, pairwise-snoc}
 use Rattle.attribute_set.specs.Sets.{full}
 use Rattle.implication.specs.Next.{next}
-use Rattle.context.specs.Objects.{Object, object, firstRefuting}
+use Rattle.context.specs.Objects.{Object}
 use Rattle.context.specs.Tables.{Table, AgreesImplication}
 use Rattle.machine.specs.Checks.{Lent, State, force, reachOf, question, withQuestion, sessionChecks}
 use Rattle.machine.specs.Checks.Laws.{Stands, passed}
 use Rattle.machine.specs.Machine.{moveTo, afterYes, afterNo, opening, opened}
 use Rattle.machine.specs.Machine.Laws.{step-cases, opened-is}
 use Rattle.machine.specs.Demand3.Invariant.{Reached, with-over, moved-reached, yes-reached, no-reached, opened-reached}
-use Rattle.transcript.specs.Text.{yesLine, noLine, refusalLine}
+use Rattle.output_lines.specs.Lines.{yesLine, noLine, refusalLine}
 use Rattle.transcript.specs.Output.{Beat, more, last}
-use Rattle.transcript.specs.Core.{counted, full-up, coreNo, coreYes, coreReply, coreBeat}
+use Rattle.transcript.specs.Core.{counted, noPlace, coreNo, coreYes, coreReply, coreBeat}
 use Rattle.transcript.specs.Core.Along.{Differ, Along, row-consistent}
-use Rattle.transcript.specs.Core.Beats.{Refuting, row-refutes, none-refutes, row-new, later-counts, counted-is, yes-consistent, core-last, core-moved, core-asked}
+use Rattle.transcript.specs.Core.Beats.{Refuting, reply-cases, row-new, later-counts, counted-is, yes-consistent, core-last, core-moved, core-asked}
 
 -- what a beat that goes on keeps: the number of attributes, the places lent, and what holds along the interview
-pub record Kept (table : List Object) (before : State) (s : State) (changes : ℕ) : Type 0 where
+pub record BeatKeeps (table : List Object) (before : State) (s : State) (changes : ℕ) : Type 0 where
   pub same-n : s .n ≡ before .n
   pub same-lent : s .lent ≡ before .lent
   pub along : Along table s changes
@@ -82,59 +82,46 @@ module _ (table : List Object) (s : State) (changes : ℕ) (a : Along table s ch
       }
 
   module _ (line : List ℕ) (s′ : State) (c′ : ℕ) where
-    not-more : (l : List ℕ) → last l ≡ more line s′ c′ → Kept table s s′ c′
+    not-more : (l : List ℕ) → last l ≡ more line s′ c′ → BeatKeeps table s s′ c′
     not-more l e = absurd (let z : _≡_ {A = ℕ} 0 1 = cc in omega arith)
 
     goes-to : (x : State) (l : List ℕ) (c : ℕ) → x .n ≡ s .n → x .lent ≡ s .lent → Along table x c
-        → more l x c ≡ more line s′ c′ → Kept table s s′ c′
+        → more l x c ≡ more line s′ c′ → BeatKeeps table s s′ c′
     goes-to x l c k i h e =
         let p : x ≡ s′ = cc in
         let q : c ≡ c′ = cc in
-        subst (λ y. Kept table s y c′) p (subst (λ y. Kept table s x y) q (record { same-n = k; same-lent = i; along = h }))
+        subst (λ y. BeatKeeps table s y c′) p (subst (λ y. BeatKeeps table s x y) q (record { same-n = k; same-lent = i; along = h }))
 
-    no-kept : (row : ℕ) (o : Object) → Refuting table (question s) o → coreNo s changes (question s) row o ≡ more line s′ c′ → Kept table s s′ c′
+    no-kept : (number : ℕ) (o : Object) → Refuting table (question s) o → coreNo s changes (question s) number o ≡ more line s′ c′ → BeatKeeps table s s′ c′
     unfolding coreNo
-    no-kept row o r = go (leb (s .lent .rows / 2) (length (s .rows))) refl
+    no-kept number o r = go (leb (s .lent .rows / 2) (length (s .rows))) refl
       where
         go : (b : Bool) → leb (s .lent .rows / 2) (length (s .rows)) ≡ b
             → _≡_ {A = Beat} (elim b [
-              | true ↦ last (noLine (s .n) (question s) (row + 1) ++ refusalLine full-up)
-              | false ↦ more (noLine (s .n) (question s) (row + 1)) (afterNo s o) changes
-            ]) (more line s′ c′) → Kept table s s′ c′
+              | true ↦ last (noLine (s .n) (question s) number ++ refusalLine noPlace)
+              | false ↦ more (noLine (s .n) (question s) number) (afterNo s o) changes
+            ]) (more line s′ c′) → BeatKeeps table s s′ c′
         go true f e = not-more _ e
         go false f e = goes-to (afterNo s o) _ changes refl refl (no-along o r f) e
 
-    yes-kept : Stands s → AgreesImplication table (question s) → coreYes s changes (question s) ≡ more line s′ c′ → Kept table s s′ c′
+    yes-kept : Stands s → AgreesImplication table (question s) → coreYes s changes (question s) ≡ more line s′ c′ → BeatKeeps table s s′ c′
     unfolding coreYes
     yes-kept t agrees = go (leb (s .lent .list / 2) (length (s .list))) refl
       where
         go : (b : Bool) → leb (s .lent .list / 2) (length (s .list)) ≡ b
             → _≡_ {A = Beat} (elim b [
-              | true ↦ last (yesLine (s .n) (question s) ++ refusalLine full-up)
+              | true ↦ last (yesLine (s .n) (question s) ++ refusalLine noPlace)
               | false ↦ more (yesLine (s .n) (question s)) (afterYes s) (counted changes)
-            ]) (more line s′ c′) → Kept table s s′ c′
+            ]) (more line s′ c′) → BeatKeeps table s s′ c′
         go true f e = not-more _ e
         go false f e = goes-to (afterYes s) _ (counted changes) refl refl (yes-along t agrees f) e
 
-    reply-kept : Stands s → coreReply table s changes (question s) ≡ more line s′ c′ → Kept table s s′ c′
-    unfolding coreReply
-    reply-kept t = go (ltb row (length table)) refl
-      where
-        row : ℕ
-        row = firstRefuting [] table (question s)
+    reply-kept : Stands s → coreReply table s changes (question s) ≡ more line s′ c′ → BeatKeeps table s s′ c′
+    reply-kept t = reply-cases table s changes (question s) (λ b. b ≡ more line s′ c′ → BeatKeeps table s s′ c′) no-kept (yes-kept t)
 
-        o : Object
-        o = getD table row (object 0 0)
-
-        go : (b : Bool) → ltb row (length table) ≡ b
-            → _≡_ {A = Beat} (elim b [ true ↦ coreNo s changes (question s) row o | false ↦ coreYes s changes (question s) ]) (more line s′ c′)
-            → Kept table s s′ c′
-        go true f e = no-kept row o (row-refutes table (question s) f) e
-        go false f e = yes-kept t (none-refutes table (question s) f) e
-
-    pub core-kept : coreBeat table s changes ≡ more line s′ c′ → Kept table s s′ c′
+    pub core-kept : coreBeat table s changes ≡ more line s′ c′ → BeatKeeps table s s′ c′
     core-kept k =
-        step-cases s (λ t. Kept table s s′ c′)
+        step-cases s (λ t. BeatKeeps table s s′ c′)
         (λ e. not-more _ (sym (core-last table s changes e) ∙ k))
         (λ ne e. goes-to _ _ _ refl refl (moved-along ne e) (sym (core-moved table s changes ne e) ∙ k))
         (λ ne d. reply-kept (record { below = ne; differs = d }) (sym (core-asked table s changes ne d) ∙ k))

@@ -19,41 +19,43 @@ use Rattle.context.specs.Places.{lowest, anywhere}
 use Rattle.machine.specs.Checks.{Lent, State, mostAttributes, badLength, outsideM, sessionChecks}
 use Rattle.machine.specs.Checks.Laws.{Passed, none-failing}
 use Rattle.machine.specs.Machine.{Opening, opening, opened, rejected, openingState}
-use Rattle.burmeister.specs.Layout as layout
-use Rattle.burmeister.specs.Marks.Laws.{rows-count}
-use Rattle.burmeister.specs.Names.{completeOf}
-use Rattle.burmeister.specs.Names.Complete.{complete-table, complete-layout, table-attributes, table-objects}
-use Rattle.burmeister.specs.declared.Layout.{Layout}
-use Rattle.burmeister.specs.declared.Refusal.{Refusal}
-use Rattle.burmeister.specs.declared.Opened.{Opened}
-use Rattle.burmeister.specs.declared.Opened.the-variants.{Table, Refused}
-use Rattle.transcript.specs.Text.{refusalLine}
-use Rattle.transcript.specs.Output.{beats, enough, tableOf, interviewed, written, outputWith, places, output}
+use Rattle.table_layout.specs.Layout.{openedOf}
+use Rattle.table_marks.specs.Marks.Laws.{rows-count}
+use Rattle.table_marks.specs.Complete.{completeOf}
+use Rattle.table_layout.specs.Layout.Passed.{table-attributes, table-objects}
+use Rattle.table_marks.specs.Complete.Laws.{complete-table, complete-layout}
+use Rattle.table_layout.specs.declared.Layout.{Layout}
+use Rattle.session.specs.declared.Refusal.{Refusal}
+use Rattle.table_layout.specs.declared.Opened.{Opened}
+use Rattle.table_layout.specs.declared.Opened.the-variants.{Found, Refused}
+use Rattle.session.specs.Refusals.{refusal}
+use Rattle.output_lines.specs.Lines.{refusalLine}
+use Rattle.transcript.specs.Output.{beats, enough, tableOf, interviewed, written, outputWith, places, outputMost, output}
 use Rattle.transcript.specs.Ending.{Concluded, Full, ListFull}
 use Rattle.transcript.specs.Core.Kept.{opened-along}
 use Rattle.transcript.specs.Core.Conclusion.{conclusion}
 use Rattle.transcript.specs.Core.Rows.{rows-suffice}
 use Rattle.transcript.specs.Core.Size.{refusal-length, size}
 
-pub program-refuses : (lent : Lent) (file : List ℕ) (r : Refusal) → completeOf file (layout.opening file) ≡ Refused r
-    → outputWith lent file ≡ refusalLine (record { number = r .number; place = r .place })
+pub program-refuses : (lent : Lent) (file : List ℕ) (r : Refusal) → completeOf file (openedOf file) ≡ Refused r
+    → outputWith lent file ≡ refusalLine (refusal (r .number) (r .place))
 unfolding outputWith
 program-refuses lent file r e = rw (outputWith, e)
 
 -- where these places are lent and accepted, the output is that of the interview
-as-interviewed : (lent : Lent) (file : List ℕ) (l : Layout) (s : State) → completeOf file (layout.opening file) ≡ Table l
+as-interviewed : (lent : Lent) (file : List ℕ) (l : Layout) (s : State) → completeOf file (openedOf file) ≡ Found l
     → opening (l .attributes) lent [] [] ≡ opened s → outputWith lent file ≡ beats (enough s) (tableOf file l) s 0
 unfolding outputWith
 as-interviewed lent file l s e o = ap (written lent file) e ∙ ap (interviewed (tableOf file l)) o
 
-pub table-ends : (lent : Lent) (file : List ℕ) (l : Layout) (s : State) → completeOf file (layout.opening file) ≡ Table l → opening (l .attributes) lent [] [] ≡ opened s
+pub table-ends : (lent : Lent) (file : List ℕ) (l : Layout) (s : State) → completeOf file (openedOf file) ≡ Found l → opening (l .attributes) lent [] [] ≡ opened s
     → Concluded (l .attributes) (tableOf file l) (outputWith lent file) ⊎ Full (l .attributes) (outputWith lent file)
 table-ends lent file l s e o =
     subst (λ t. Concluded (l .attributes) (tableOf file l) t ⊎ Full (l .attributes) t) (sym (as-interviewed lent file l s e o))
     (conclusion (tableOf file l) (l .attributes) lent s (complete-table file l e) o)
 
 -- the program's places are accepted for every number of attributes that a file can have
-pub places-open : (n : ℕ) → 0 < n → n ≤ 64 → opening n places [] [] ≡ opened (openingState n places [] [])
+pub places-open : (n : ℕ) → 0 < n → n ≤ mostAttributes → opening n places [] [] ≡ opened (openingState n places [] [])
 unfolding opening sessionChecks badLength outsideM anywhere lowest closure close
 places-open n l u =
     let passes : Passed (sessionChecks (openingState n places [] []) []) = (attributes, (refl, (refl, (inside-m, (refl, (refl, (refl, tt))))))) in
@@ -65,7 +67,7 @@ places-open n l u =
     inside-m : not (inside 0 (full n)) ≡ false
     inside-m = rw (sub-inside (none-sub (full n)))
 
-pub program-ends : (file : List ℕ) (l : Layout) → completeOf file (layout.opening file) ≡ Table l
+pub program-ends : (file : List ℕ) (l : Layout) → completeOf file (openedOf file) ≡ Found l
     → Concluded (l .attributes) (tableOf file l) (output file) ⊎ ListFull (l .attributes) (output file)
 program-ends file l e =
     let k = complete-layout file l e in
@@ -76,15 +78,15 @@ program-ends file l e =
     (omega (arith, table-objects file l k, rows-count (l .objects) file (l .marks))))
 
 -- only a reply writes a line before the end
-pub output-size : (lent : Lent) (file : List ℕ) → length (outputWith lent file) ≤ 163840
+pub output-size : (lent : Lent) (file : List ℕ) → length (outputWith lent file) ≤ outputMost
 unfolding outputWith
-output-size lent file = go (completeOf file (layout.opening file)) refl
+output-size lent file = go (completeOf file (openedOf file)) refl
   where
-    held : (l : Layout) → completeOf file (layout.opening file) ≡ Table l → (o : Opening) → opening (l .attributes) lent [] [] ≡ o
-        → length (interviewed (tableOf file l) o) ≤ 163840
+    held : (l : Layout) → completeOf file (openedOf file) ≡ Found l → (o : Opening) → opening (l .attributes) lent [] [] ≡ o
+        → length (interviewed (tableOf file l) o) ≤ outputMost
     held l e (opened s) f = size (enough s) (tableOf file l) s 0 (opened-along (tableOf file l) (l .attributes) lent s (complete-table file l e) f)
     held l e (rejected r) f = omega (arith, refusal-length r)
 
-    go : (x : Opened) → completeOf file (layout.opening file) ≡ x → length (written lent file x) ≤ 163840
-    go (Table l) e = held l e (opening (l .attributes) lent [] []) refl
-    go (Refused r) e = omega (arith, refusal-length (record { number = r .number; place = r .place }))
+    go : (x : Opened) → completeOf file (openedOf file) ≡ x → length (written lent file x) ≤ outputMost
+    go (Found l) e = held l e (opening (l .attributes) lent [] []) refl
+    go (Refused r) e = omega (arith, refusal-length (refusal (r .number) (r .place)))

@@ -13,9 +13,9 @@ use Rattle.context.specs.Objects.{Object}
 use Rattle.context.specs.Tables.{Table}
 use Rattle.machine.specs.Checks.{Lent, State}
 use Rattle.machine.specs.Machine.{opening, opened}
-use Rattle.transcript.specs.Text.{yesLine, refusalLine}
+use Rattle.output_lines.specs.Lines.{yesLine, refusalLine}
 use Rattle.transcript.specs.Output.{beats, enough}
-use Rattle.transcript.specs.Core.{full-up}
+use Rattle.transcript.specs.Core.{noPlace}
 use Rattle.transcript.specs.Ending.{Concluded, Full, ListFull}
 use Rattle.transcript.specs.Core.Conclusion.{Ends, ends}
 
@@ -24,7 +24,7 @@ yes-full : (n : ℕ) (text : List ℕ) (f : Full n text) → f .reply ≡ yesLin
 yes-full n text f y = record {
   before = f .before;
   question = f .question;
-  whole = subst (λ line. text ≡ f .before ++ (line ++ refusalLine full-up)) y (f .whole);
+  whole = subst (λ line. text ≡ f .before ++ (line ++ refusalLine noPlace)) y (f .whole);
 }
 
 pub rows-suffice : (table : List Object) (n : ℕ) (lent : Lent) (s : State) → Table n table → opening n lent [] [] ≡ opened s

@@ -5,22 +5,23 @@ use mathlib.Core.Bool.{Bool, true, false, not}
 use mathlib.Core.List.{List, [], _∷_, _++_}
 use Prim.Native.Nat.{ℕ, zero, suc, _+_, _*_, _-_, _/_, _%_, _≤_, _<_}
 use native.Mathlib.Omega.{arith}
-use lib.ListN.{length, getD, length-append}
+use lib.ListN.{length, length-append}
 use lib.Dec.{eqb, ltb, leb}
 use borrow.Author.Tests.{ltb-false, leb-false}
 use Rattle.theory.specs.Implications.{Implication}
 use Rattle.attribute_set.specs.Sets.{full}
 use Rattle.implication.specs.Next.{next}
-use Rattle.context.specs.Objects.{Object, object, firstRefuting}
+use Rattle.context.specs.Objects.{Object}
 use Rattle.session.specs.declared.Refusal.{Refusal}
 use Rattle.machine.specs.Checks.{State, badLength, mostAttributes, mostObjects, mostImplications, force, reachOf, question}
 use Rattle.machine.specs.Checks.Laws.{or-false}
 use Rattle.machine.specs.Machine.{moveTo, afterYes, afterNo}
-use Rattle.transcript.specs.Text.{digits, numberText, setText, ruleText, yesLine, noLine, listLines, endLine, refusalLine}
-use Rattle.transcript.specs.Output.{Beat, more, last, beat, beats}
-use Rattle.transcript.specs.Core.{counted, full-up, coreNo, coreYes, coreReply, coreBeat}
+use Rattle.text.specs.Text.{digits, numberText, setText}
+use Rattle.output_lines.specs.Lines.{ruleText, yesLine, noLine, listLines, endLine, refusalLine}
+use Rattle.transcript.specs.Output.{Beat, more, last, beat, beats, outputMost}
+use Rattle.transcript.specs.Core.{counted, noPlace, coreNo, coreYes, coreReply, coreBeat}
 use Rattle.transcript.specs.Core.Along.{Along}
-use Rattle.transcript.specs.Core.Beats.{core-beat}
+use Rattle.transcript.specs.Core.Beats.{reply-cases, core-beat}
 use Rattle.transcript.specs.Core.Kept.{core-along}
 
 -- ---- the parts of a line
@@ -46,7 +47,7 @@ rule-length n r =
 
 -- ---- the lines
 
-module _ (n : ℕ) (few : n ≤ 64) where
+module _ (n : ℕ) (few : n ≤ mostAttributes) where
   yes-length : (q : Implication ℕ) → length (yesLine n q) ≤ 160
   yes-length q = rw (length-append (ruleText n q), rule-length n q) (omega arith)
 
@@ -89,30 +90,30 @@ few-words most words e =
     omega arith
 
 module _ (table : List Object) (s : State) (changes : ℕ) (h : Along table s changes) where
-  few-attributes : s .n ≤ 64
+  few-attributes : s .n ≤ mostAttributes
   few-attributes = ltb-false _ _ (or-false (eqb (s .n) 0) (ltb mostAttributes (s .n)) (h .attributes) .1)
 
-  few-places : (s .lent .rows / 2 ≤ 512) × (s .lent .list / 2 ≤ 256)
+  few-places : (s .lent .rows / 2 ≤ mostObjects) × (s .lent .list / 2 ≤ mostImplications)
   few-places =
       let x = or-false (badLength mostObjects (s .lent .rows)) _ (h .lengths) in
       let y = or-false (badLength mostImplications (s .lent .list)) _ (x .1) in
       (few-words mostObjects (s .lent .rows) (x .0), few-words mostImplications (s .lent .list) (y .0))
 
-  no-paid : (q : Implication ℕ) (row : ℕ) (o : Object) → Paid s (coreNo s changes q row o)
+  no-paid : (q : Implication ℕ) (number : ℕ) (o : Object) → Paid s (coreNo s changes q number o)
   unfolding coreNo
-  no-paid q row o = go (leb (s .lent .rows / 2) (length (s .rows))) refl
+  no-paid q number o = go (leb (s .lent .rows / 2) (length (s .rows))) refl
     where
       go : (b : Bool) → leb (s .lent .rows / 2) (length (s .rows)) ≡ b
           → Paid s (elim b [
-            | true ↦ last (noLine (s .n) q (row + 1) ++ refusalLine full-up)
-            | false ↦ more (noLine (s .n) q (row + 1)) (afterNo s o) changes
+            | true ↦ last (noLine (s .n) q number ++ refusalLine noPlace)
+            | false ↦ more (noLine (s .n) q number) (afterNo s o) changes
           ])
       go true e =
-          rw (length-append (noLine (s .n) q (row + 1)))
-          (omega (arith, no-length (s .n) few-attributes q (row + 1), refusal-length full-up))
+          rw (length-append (noLine (s .n) q number))
+          (omega (arith, no-length (s .n) few-attributes q number, refusal-length noPlace))
       go false e =
           let l : length (s .rows) < s .lent .rows / 2 = leb-false _ _ e in
-          omega (arith, no-length (s .n) few-attributes q (row + 1), length-append (s .rows) (o ∷ []))
+          omega (arith, no-length (s .n) few-attributes q number, length-append (s .rows) (o ∷ []))
 
   yes-paid : (q : Implication ℕ) → Paid s (coreYes s changes q)
   unfolding coreYes
@@ -120,27 +121,18 @@ module _ (table : List Object) (s : State) (changes : ℕ) (h : Along table s ch
     where
       go : (b : Bool) → leb (s .lent .list / 2) (length (s .list)) ≡ b
           → Paid s (elim b [
-            | true ↦ last (yesLine (s .n) q ++ refusalLine full-up)
+            | true ↦ last (yesLine (s .n) q ++ refusalLine noPlace)
             | false ↦ more (yesLine (s .n) q) (afterYes s) (counted changes)
           ])
       go true e =
           rw (length-append (yesLine (s .n) q))
-          (omega (arith, yes-length (s .n) few-attributes q, refusal-length full-up))
+          (omega (arith, yes-length (s .n) few-attributes q, refusal-length noPlace))
       go false e =
           let l : length (s .list) < s .lent .list / 2 = leb-false _ _ e in
           omega (arith, yes-length (s .n) few-attributes q, length-append (s .list) (question s ∷ []))
 
   reply-paid : (q : Implication ℕ) → Paid s (coreReply table s changes q)
-  unfolding coreReply
-  reply-paid q = go (ltb (firstRefuting [] table q) (length table))
-    where
-      go : (b : Bool)
-          → Paid s (elim b [
-            | true ↦ coreNo s changes q (firstRefuting [] table q) (getD table (firstRefuting [] table q) (object 0 0))
-            | false ↦ coreYes s changes q
-          ])
-      go true = no-paid q _ _
-      go false = yes-paid q
+  reply-paid q = reply-cases table s changes q (Paid s) (λ number o r. no-paid q number o) (λ agrees. yes-paid q)
 
   beat-paid : Paid s (coreBeat table s changes)
   unfolding coreBeat
@@ -183,5 +175,5 @@ beats-paid (suc k) table s changes h =
         rw (length-append line) (omega (arith, p, ih s′ c′ (core-along table s changes h line s′ c′ e)))
     go (last line) e p ih = omega (arith, p)
 
-pub size : (k : ℕ) (table : List Object) (s : State) (changes : ℕ) → Along table s changes → length (beats k table s changes) ≤ 163840
+pub size : (k : ℕ) (table : List Object) (s : State) (changes : ℕ) → Along table s changes → length (beats k table s changes) ≤ outputMost
 size k table s changes h = omega (arith, beats-paid k table s changes h, few-places table s changes h)

@@ -20,8 +20,8 @@ use Rattle.machine.specs.Checks.Laws.{passed-append}
 use Rattle.machine.specs.Machine.{step, accept, reject, Turn, moveTo, afterYes, afterNo, performStep, performed, checksOf, perform, opened, opening}
 use Rattle.machine.specs.Machine.Laws.{perform-cases, perform-accepted, step-cases}
 use Rattle.machine.specs.Demand3.Invariant.{Reached, perform-reached, opened-reached}
-use Rattle.transcript.specs.Output.{Beat, more, last, replied, answered, stepped, beat, beats, ended, enough}
-use Rattle.transcript.specs.Text.{yesLine, noLine}
+use Rattle.transcript.specs.Output.{Beat, more, last, replied, answered, stepped, beat, beats, lastWithin, enough}
+use Rattle.output_lines.specs.Lines.{yesLine, noLine}
 
 -- how far the interview can still go: the later sets, each with all places for rows, and the places that are free now
 unfoldable pub measure : State → ℕ
@@ -110,13 +110,13 @@ module _ (table : List Object) (s : State) (changes : ℕ) (h : Reached s) (line
       (λ r e k. absurd (not-more _ _ _ _ k))
 
 -- with more beats than there is to go, the last is among them
-ends-within : (k : ℕ) (table : List Object) (s : State) (changes : ℕ) → Reached s → measure s < k → ended k table s changes ≡ true
-unfolding ended
+ends-within : (k : ℕ) (table : List Object) (s : State) (changes : ℕ) → Reached s → measure s < k → lastWithin k table s changes ≡ true
+unfolding lastWithin
 ends-within zero table s changes h l = absurd (omega arith)
 ends-within (suc k) table s changes h l = go (beat table s changes) refl (λ s′ c′ r m. ends-within k table s′ c′ r m)
   where
-    go : (b : Beat) → beat table s changes ≡ b → ((s′ : State) (c′ : ℕ) → Reached s′ → measure s′ < k → ended k table s′ c′ ≡ true)
-        → elim b as (λ x. Bool) [ more line s′ c′ ↦ ended k table s′ c′ | last line ↦ true ] ≡ true
+    go : (b : Beat) → beat table s changes ≡ b → ((s′ : State) (c′ : ℕ) → Reached s′ → measure s′ < k → lastWithin k table s′ c′ ≡ true)
+        → elim b as (λ x. Bool) [ more line s′ c′ ↦ lastWithin k table s′ c′ | last line ↦ true ] ≡ true
     go (more line s′ c′) e ih =
         let f = beat-falls table s changes h line s′ c′ e in
         ih s′ c′ (f .reached) (omega (arith, f .less))
@@ -142,5 +142,5 @@ unfolding measure
 measure-enough s = omega (arith, mul-le-mul-right {m = 2 ^ s .n - rank (s .n) (s .current)} {n = 2 ^ s .n} (suc (s .lent .rows / 2)) (omega arith))
 
 -- the interview of a table ends in its last beat
-pub interview-ends : (table : List Object) (n : ℕ) (lent : Lent) (s : State) → opening n lent [] [] ≡ opened s → ended (enough s) table s 0 ≡ true
+pub interview-ends : (table : List Object) (n : ℕ) (lent : Lent) (s : State) → opening n lent [] [] ≡ opened s → lastWithin (enough s) table s 0 ≡ true
 interview-ends table n lent s e = ends-within (enough s) table s 0 (opened-reached n lent [] [] s e) (measure-enough s)

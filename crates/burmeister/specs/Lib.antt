@@ -1,4 +1,0 @@
-pub mod Lines
-pub mod Layout
-pub mod Marks
-pub mod Names

@@ -1,0 +1,57 @@
+-- Each kind makes the call of its kind, whose contract is that of the log's call; an unknown kind does nothing.
+use mathlib.Core.Path.{_≡_}
+use borrow.Author.Needs.{needs}
+use Rattle.call_logs.specs.Replay.{callOf}
+use Rattle.call_logs.specs.Replay.Laws.{call-unknown, kind-step, kind-yes, kind-no, kind-follows, kind-refuted, of-kind, of-unknown}
+use Rattle.call_logs.proofs.replay_one.Statement.{statement}
+use Rattle.call_logs.proofs.replay_one.Tie as tie
+
+returns : tie.Need-returns
+returns c = let d = c in of-kind _ 0 _ _ (d .before .before .before .if1 .taken) (kind-step _ _) (d .step .ensures .made)
+
+returns-2 : tie.Need-returns-2
+returns-2 c = let d = c .before .before in of-kind _ 1 _ _ (d .before .before .before .if2 .taken) (kind-yes _ _) (d .accept .ensures .made)
+
+returns-3 : tie.Need-returns-3
+returns-3 c = let d = c .before .before in of-kind _ 2 _ _ (d .before .before .before .if3 .taken) (kind-no _ _) (d .reject .ensures .made)
+
+returns-4 : tie.Need-returns-4
+returns-4 c = let d = c in of-kind _ 3 _ _ (d .before .before .before .if4 .taken) (kind-follows _ _) (d .follows .ensures)
+
+returns-5 : tie.Need-returns-5
+returns-5 c = let d = c in of-kind _ 4 _ _ (d .before .before .before .if5 .taken) (kind-refuted _ _) (d .refuted .ensures)
+
+returns-6 : tie.Need-returns-6
+returns-6 c =
+    let d = c .before in
+    of-unknown _ _ _ _ _ _
+    (call-unknown _ _ _ (d .before .before .before .before .if1 .left) (d .before .before .before .if2 .left) (d .before .before .if3 .left)
+    (d .before .if4 .left) (d .if5 .left))
+    (c .in-words .ensures)
+
+pub replay-one-spec : {M : Type 1} → statement M
+replay-one-spec =
+    tie.close
+    (tie.spec
+    (λ c κs. search needs)
+    (λ c. search needs)
+    (λ c. search needs)
+    returns
+    (λ c κs. search needs)
+    (λ c. search needs)
+    (λ c. search needs)
+    returns-2
+    (λ c κs. search needs)
+    (λ c. search needs)
+    (λ c. search needs)
+    returns-3
+    (λ c κs. search needs)
+    (λ c. search needs)
+    (λ c. search needs)
+    returns-4
+    (λ c κs. search needs)
+    (λ c. search needs)
+    (λ c. search needs)
+    returns-5
+    (λ c κs. search needs)
+    returns-6)

@@ -1,3 +1,0 @@
-pub mod Codes
-pub mod Replay
-pub mod Interview

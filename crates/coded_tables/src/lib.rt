@@ -1,0 +1,88 @@
+// The table reader with its answers in three words: the layout that the caller keeps goes in, and comes back where it may have changed.
+ghost use mathlib.Core.Path.{_≡_};
+ghost use Rattle.table_layout.specs.Layout.{openedOf};
+ghost use Rattle.table_marks.specs.Complete.{openedComplete};
+ghost use Rattle.table_names.specs.Names.{objectSpan, attributeSpan};
+ghost use Rattle.coded_tables.specs.Tables.{FindsTable, ReadsMarks, codeOfSpan};
+
+// The answer to a call, the layout after it, and whether it differs from the one before.
+pub struct Found {
+    pub answer: coded_calls::Answer,
+    pub layout: table_layout::Layout,
+    pub changed: bool,
+}
+
+fn found_as(opened: table_layout::Opened, layout: table_layout::Layout) -> Found
+    ensures { λ r. ⌜ FindsTable opened layout (r .answer) (r .layout) (r .changed) ⌝ }
+{
+    match opened {
+        table_layout::Opened::Found(table) => Found {
+            answer: coded_calls::in_words(coded_calls::Answer::TAKEN, 0, 0),
+            layout: table,
+            changed: true,
+        },
+        table_layout::Opened::Refused(refusal) => Found {
+            answer: coded_calls::answer_of_refusal(refusal),
+            layout,
+            changed: false,
+        },
+    }
+}
+
+// Opens a table file: 21 to 28.
+pub fn open(layout: table_layout::Layout, file: &[u8]) -> Found
+    ensures { λ r. ⌜ FindsTable (openedOf (now (file .entry))) layout (r .answer) (r .layout) (r .changed) ⌝ }
+{
+    let opened = table_layout::open(file);
+    found_as(opened, layout)
+}
+
+// Opens a table file that has to be complete: 21 to 29.
+pub fn open_complete(layout: table_layout::Layout, file: &[u8]) -> Found
+    ensures { λ r. ⌜ FindsTable (openedComplete (now (file .entry))) layout (r .answer) (r .layout) (r .changed) ⌝ }
+{
+    let opened = table_marks::open_complete(file);
+    found_as(opened, layout)
+}
+
+// The marks of an opened table, its file and its layout, into lent row words: 2, 21 to 28, 3.
+pub fn read_marks(
+    layout: table_layout::Layout,
+    file: &[u8],
+    rows: &mut [u64],
+) -> coded_calls::Answer
+    ensures { λ r. ⌜ ReadsMarks layout file rows r ⌝ }
+{
+    let opened = table_marks::read_marks_of(file, layout, rows);
+    match opened {
+        table_layout::Opened::Found(_) => coded_calls::in_words(coded_calls::Answer::TAKEN, 0, 0),
+        table_layout::Opened::Refused(refusal) => coded_calls::answer_of_refusal(refusal),
+    }
+}
+
+fn answer_of_span(span: table_names::Span) -> coded_calls::Answer
+    ensures { λ r. ⌜ r ≡ codeOfSpan span ⌝ }
+{
+    if span.size == 0 {
+        return coded_calls::in_words(coded_calls::Answer::NO_ROOM, 0, 0);
+    }
+    coded_calls::in_words(coded_calls::Answer::TAKEN, span.at as u64, span.size as u64)
+}
+
+// Where the name of an object stands in the file: its offset and how many bytes it has; 3 where there is no such name.
+pub fn object_name(layout: table_layout::Layout, file: &[u8], number: usize) -> coded_calls::Answer
+    ensures { λ r. ⌜ r ≡ codeOfSpan (objectSpan (now (file .entry)) layout number) ⌝ }
+{
+    answer_of_span(table_names::object_span(file, layout, number))
+}
+
+// Where the name of an attribute stands, as for objects.
+pub fn attribute_name(
+    layout: table_layout::Layout,
+    file: &[u8],
+    number: usize,
+) -> coded_calls::Answer
+    ensures { λ r. ⌜ r ≡ codeOfSpan (attributeSpan (now (file .entry)) layout number) ⌝ }
+{
+    answer_of_span(table_names::attribute_span(file, layout, number))
+}

@@ -1,2 +1,0 @@
-pub mod Session
-pub mod Contradiction

@@ -1,0 +1,88 @@
+// The calls of a session over a record that is lent: each reads the record, makes the call by value, and stores the record where it
+// changed. A call that only reads takes it by `&`.
+ghost use Rattle.implication.specs.Closure.{implication};
+ghost use Rattle.context.specs.Objects.{object};
+ghost use Rattle.machine.specs.Machine.{step as stepping, accept as accepting, reject as rejecting, follow, refute};
+ghost use Rattle.machine.specs.Calls.{PerformsOn};
+ghost use Rattle.session_calls.specs.Answers.{stepAnswer, replyAnswer, followingAnswer, refutingAnswer};
+
+// Finished at M; the standing question; or a move to the next closed set.
+pub fn step(
+    session: &mut session::Session,
+    rows: &[u64],
+    list: &[u64],
+    background: &[u64],
+) -> session_calls::Step
+    ensures { λ r. ⌜ PerformsOn stepping session rows list background (stepAnswer r) ⌝ }
+{
+    let held = *session;
+    let turn = session_calls::make_step(held, rows, list, background);
+    if turn.changed {
+        *session = turn.session;
+    }
+    turn.answer
+}
+
+// 01's yes: the standing question becomes the next rule of the list, and the current set the next closed set.
+pub fn accept(
+    session: &mut session::Session,
+    rows: &[u64],
+    list: &mut [u64],
+    background: &[u64],
+) -> session_calls::Reply
+    ensures { λ r. ⌜ PerformsOn accepting session rows list background (replyAnswer r) ⌝ }
+{
+    let held = *session;
+    let turn = session_calls::accept(held, rows, list, background);
+    if turn.changed {
+        *session = turn.session;
+    }
+    turn.answer
+}
+
+// 01's no: the offered row, which refutes the standing question, becomes the next row.
+pub fn reject(
+    session: &mut session::Session,
+    rows: &mut [u64],
+    list: &[u64],
+    background: &[u64],
+    yes: u64,
+    no: u64,
+) -> session_calls::Reply
+    ensures { λ r. ⌜ PerformsOn (rejecting (object yes no)) session rows list background (replyAnswer r) ⌝ }
+{
+    let held = *session;
+    let turn = session_calls::reject(held, rows, list, background, yes, no);
+    if turn.changed {
+        *session = turn.session;
+    }
+    turn.answer
+}
+
+// Whether an implication follows from those in force.
+pub fn follows(
+    session: &session::Session,
+    rows: &[u64],
+    list: &[u64],
+    background: &[u64],
+    premise: u64,
+    conclusion: u64,
+) -> session_calls::Following
+    ensures { λ r. ⌜ PerformsOn (follow (implication premise conclusion)) session rows list background (followingAnswer r) ⌝ }
+{
+    session_calls::follows(*session, rows, list, background, premise, conclusion)
+}
+
+// Whether a row refutes an implication, with the first such row.
+pub fn refuted(
+    session: &session::Session,
+    rows: &[u64],
+    list: &[u64],
+    background: &[u64],
+    premise: u64,
+    conclusion: u64,
+) -> session_calls::Refuting
+    ensures { λ r. ⌜ PerformsOn (refute (implication premise conclusion)) session rows list background (refutingAnswer r) ⌝ }
+{
+    session_calls::refuted(*session, rows, list, background, premise, conclusion)
+}

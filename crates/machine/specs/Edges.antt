@@ -1,0 +1,65 @@
+-- Cases at the edges of document 01's limits and with places above 0, one table below the marked one. `Edges.Proof` proves the whole table by
+-- computing the definitions.
+use mathlib.Core.Path.{_≡_}
+use mathlib.Core.List.{List, [], _∷_}
+use Prim.Native.Nat.{ℕ}
+use lib.ListN.{replicate}
+use Rattle.theory.specs.Implications.{Implication}
+use Rattle.implication.specs.Closure.{implication}
+use Rattle.context.specs.Objects.{Object, object}
+use Rattle.session.specs.Refusals.{refusal}
+use Rattle.machine.specs.Checks.{Lent, State}
+use Rattle.machine.specs.Machine.{step, accept, reject, asked, taken, refused, perform, rejected, opened, opening, openingState}
+pub mod Proof
+
+-- lent lengths: row words, list words, background words
+abbrev pub lent : ℕ → ℕ → ℕ → Lent
+lent rows list background = record { rows = rows; list = list; background = background }
+
+-- n = 3, background {0,1} → {2}, current set {0}
+abbrev pub over : Lent → List Object → State
+over l rows = record { n = 3; lent = l; background = implication 3 4 ∷ []; rows = rows; list = []; current = 1 }
+
+-- so many rows that mark nothing
+abbrev pub blank : ℕ → List Object
+blank k = replicate k (object 0 0)
+
+-- so many rules {} → {}, with n = 3 and the current set {}
+abbrev pub listed : ℕ → State
+listed k = record { n = 3; lent = lent 2 512 0; background = []; rows = []; list = replicate k (implication 0 0); current = 0 }
+
+pub record Edges : Type 0 where
+  -- 64 attributes pass, 65 and 0 do not
+  pub most-attributes : opening 64 (lent 0 0 0) [] [] ≡ opened (openingState 64 (lent 0 0 0) [] [])
+  pub too-many-attributes : opening 65 (lent 0 0 0) [] [] ≡ rejected (refusal 1 0)
+  pub no-attributes : opening 0 (lent 0 0 0) [] [] ≡ rejected (refusal 1 0)
+  -- 1,024 row words pass, 1,026 and 1,023 do not; 512 and 514 for list and background
+  pub most-words : opening 3 (lent 1024 512 512) [] [] ≡ opened (openingState 3 (lent 1024 512 512) [] [])
+  pub too-many-row-words : opening 3 (lent 1026 0 0) [] [] ≡ rejected (refusal 2 0)
+  pub odd-row-words : opening 3 (lent 1023 0 0) [] [] ≡ rejected (refusal 2 0)
+  pub too-many-list-words : opening 3 (lent 0 514 0) [] [] ≡ rejected (refusal 2 0)
+  pub odd-list-words : opening 3 (lent 0 511 0) [] [] ≡ rejected (refusal 2 0)
+  pub too-many-background-words : opening 3 (lent 0 0 514) [] [] ≡ rejected (refusal 2 0)
+  pub odd-background-words : opening 3 (lent 0 0 1) [] [] ≡ rejected (refusal 2 0)
+  -- 512 rows in use pass, 513 have no places
+  pub most-rows : opening 3 (lent 1024 0 0) [] (blank 512) ≡ opened (openingState 3 (lent 1024 0 0) [] (blank 512))
+  pub too-many-rows : opening 3 (lent 1024 0 0) [] (blank 513) ≡ rejected (refusal 3 0)
+  -- 256 rules in use pass, and a yes finds no place; with 255 it is taken
+  pub most-rules : perform (listed 256) step .answer ≡ asked (implication 0 7)
+  pub no-place-for-a-rule : perform (listed 256) accept .answer ≡ refused (refusal 12 0)
+  pub last-place-for-a-rule : perform (listed 255) accept .answer ≡ taken
+  pub too-many-rules : perform (listed 257) step .answer ≡ refused (refusal 3 0)
+  -- the third row marks attribute 1 both ways, and so does the fourth: 5 names the lowest
+  pub five : perform (over (lent 8 2 2) (object 1 0 ∷ object 1 2 ∷ object 2 2 ∷ object 2 2 ∷ [])) step .answer ≡ refused (refusal 5 2)
+  -- the second row has 0 and 1 and lacks 2, and so does the third: 6 names the lowest
+  pub six : perform (over (lent 6 2 2) (object 1 0 ∷ object 3 4 ∷ object 3 4 ∷ [])) step .answer ≡ refused (refusal 6 1)
+  -- the first row contradicts and the second marks an attribute both ways: 5 comes before 6
+  pub five-before-six : perform (over (lent 4 2 2) (object 3 4 ∷ object 2 2 ∷ [])) step .answer ≡ refused (refusal 5 1)
+  -- a yes to {0} → {1} contradicts the second row, which has 0 and lacks 2, and the third: 11 names the lowest
+  pub eleven : perform (over (lent 6 2 2) (object 2 0 ∷ object 1 4 ∷ object 1 4 ∷ [])) accept .answer ≡ refused (refusal 11 1)
+  -- 11 is tested before 12
+  pub eleven-before-twelve : perform (over (lent 6 0 2) (object 2 0 ∷ object 1 4 ∷ object 1 4 ∷ [])) accept .answer ≡ refused (refusal 11 1)
+  -- a no that contradicts has the place 0
+  pub no-contradicts : perform (over (lent 4 2 2) (object 2 0 ∷ [])) (reject (object 3 4)) .answer ≡ refused (refusal 11 0)
+  -- a row that fits and finds no place
+  pub no-place-for-a-row : perform (over (lent 2 2 2) (object 2 0 ∷ [])) (reject (object 1 4)) .answer ≡ refused (refusal 12 0)

@@ -1,0 +1,39 @@
+-- The cases at the edges hold: each is computed.
+use mathlib.Core.Path.{refl}
+use Rattle.attribute_set.specs.Sets.{full, without, inside, meets}
+use Rattle.implication.specs.Closure.{fire, pass, close, closure}
+use Rattle.implication.specs.Next.{nextBelow}
+use Rattle.context.specs.Places.{lowest, anywhere}
+use Rattle.context.specs.Objects.{has, lacks, refutes, markedTwice, contradicts}
+use Rattle.context.specs.Reach.{cut, narrow, reach}
+use Rattle.machine.specs.Checks.{standing, questionStands, firstFailing, badLength, strange, outsideM, sessionChecks, yesChecks, noChecks}
+use Rattle.machine.specs.Machine.{performStep, performed, checksOf, perform, opening}
+use Rattle.machine.specs.Edges.{Edges}
+
+pub edges : Edges
+unfolding full without inside meets fire pass close closure nextBelow lowest anywhere has lacks refutes markedTwice contradicts cut narrow reach standing questionStands firstFailing badLength strange outsideM sessionChecks yesChecks noChecks performStep performed checksOf perform opening
+edges = record {
+  most-attributes = refl;
+  too-many-attributes = refl;
+  no-attributes = refl;
+  most-words = refl;
+  too-many-row-words = refl;
+  odd-row-words = refl;
+  too-many-list-words = refl;
+  odd-list-words = refl;
+  too-many-background-words = refl;
+  odd-background-words = refl;
+  most-rows = refl;
+  too-many-rows = refl;
+  most-rules = refl;
+  no-place-for-a-rule = refl;
+  last-place-for-a-rule = refl;
+  too-many-rules = refl;
+  five = refl;
+  six = refl;
+  five-before-six = refl;
+  eleven = refl;
+  eleven-before-twelve = refl;
+  no-contradicts = refl;
+  no-place-for-a-row = refl;
+}

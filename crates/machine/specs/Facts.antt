@@ -1,0 +1,60 @@
+-- Document 01's refusals 1 to 12 as facts about a state, a rule asked about and a reply ("Refusals in checking order"). `Laws` proves that
+-- the checks pass just where these hold, and `Kept` that they hold of checks 1 to 7 from an accepted opening on.
+use mathlib.Core.Path.{_≡_}
+use mathlib.Core.Bool.{true}
+use Prim.Native.Nat.{ℕ, _*_, _/_, _%_, _≤_, _<_}
+use lib.ListN.{length}
+use Rattle.theory.specs.Lists.{All}
+use Rattle.theory.specs.Implications.{Over}
+use Rattle.attribute_set.specs.Sets.{Sub, Apart, full}
+use Rattle.attribute_set.specs.Words.{words}
+use Rattle.implication.specs.Closure.{closure}
+use Rattle.context.specs.Objects.{Object, refutes}
+use Rattle.machine.specs.Checks.{mostAttributes, mostObjects, mostImplications, State, force, question, withQuestion}
+use Rattle.machine.specs.Checks.Laws.{InM, Stands}
+pub mod Laws
+pub mod Kept
+pub mod Refused
+
+-- a lent length: whole places, and no more than a limit allows
+pub record Places (most length : ℕ) : Type 0 where
+  pub even : length % 2 ≡ 0
+  pub within : length ≤ most * 2
+
+-- checks 1 to 7 of a state
+pub record Fine (s : State) : Type 0 where
+  -- 1
+  pub some-attribute : 1 ≤ s .n
+  pub attributes : s .n ≤ mostAttributes
+  -- 2
+  pub row-words : Places mostObjects (s .lent .rows)
+  pub list-words : Places mostImplications (s .lent .list)
+  pub background-words : Places mostImplications (s .lent .background)
+  -- 3
+  pub row-places : length (s .rows) ≤ s .lent .rows / 2
+  pub list-places : length (s .list) ≤ s .lent .list / 2
+  -- 4
+  pub rows-in : All (InM (s .n)) (s .rows)
+  pub rules-in : All (Over words (full (s .n))) (force s)
+  pub current-in : Sub (s .current) (full (s .n))
+  -- 5
+  pub once : All (λ o. Apart (o .yes-marks) (o .no-marks)) (s .rows)
+  -- 6
+  pub consistent : All (λ o. Apart (closure (force s) (o .yes-marks)) (o .no-marks)) (s .rows)
+  -- 7
+  pub closed : closure (force s) (s .current) ≡ s .current
+
+-- checks 8, 11 and 12 of a yes: a question stands, no row in use contradicts with it in the list, and a place is left
+pub record YesFits (s : State) : Type 0 where
+  pub stands : Stands s
+  pub consistent : All (λ o. Apart (closure (withQuestion s) (o .yes-marks)) (o .no-marks)) (s .rows)
+  pub place : length (s .list) < s .lent .list / 2
+
+-- checks 8 to 12 of a no: a question stands, the offered row is a row over M that refutes it and does not contradict, and a place is left
+pub record NoFits (s : State) (o : Object) : Type 0 where
+  pub stands : Stands s
+  pub inside : InM (s .n) o
+  pub once : Apart (o .yes-marks) (o .no-marks)
+  pub refuting : refutes (force s) o (question s) ≡ true
+  pub consistent : Apart (closure (force s) (o .yes-marks)) (o .no-marks)
+  pub place : length (s .rows) < s .lent .rows / 2

@@ -1,0 +1,184 @@
+-- The checks both ways: checks 1 to 7 pass just where `Fine` holds and the rule asked about is over M (`checks-fine`, `fine-checks`);
+-- those of a yes just where `YesFits` holds (`checks-yes`, `yes-checks`), those of a no just where `NoFits` does (`checks-no`,
+-- `no-checks`). So a reply is taken just where both hold (`yes-taken`, `taken-yes`, `no-taken`, `taken-no`).
+use mathlib.Core.Path.{_≡_, refl, sym, ap, _∙_}
+use mathlib.Core.Bool.{Bool, true, false, not, _||_}
+use mathlib.Core.List.{List, [], _++_, append-nil}
+use mathlib.Core.Option.{none, some}
+use Prim.Native.Nat.{ℕ, _*_, _/_, _%_, _≤_}
+use native.Mathlib.Omega.{arith}
+use lib.ListN.{length}
+use lib.Dec.{eqb, ltb, leb}
+use borrow.Author.Tests.{eqb-true, eqb-false, eq-eqb, not-false, ltb-false, le-ltb, leb-false, lt-leb, ne-eqb}
+use Rattle.theory.specs.Lists.{All}
+use Rattle.theory.specs.Lists.Laws.{all-nil, all-append, all-drop}
+use Rattle.theory.specs.Implications.{Implication, Over}
+use Rattle.attribute_set.specs.Sets.{inside, full}
+use Rattle.attribute_set.specs.Sets.Laws.{sub-inside}
+use Rattle.attribute_set.specs.Words.{words}
+use Rattle.implication.specs.Closure.{closure}
+use Rattle.context.specs.Places.{anywhere}
+use Rattle.context.specs.Places.Laws.{anywhere-false, all-anywhere}
+use Rattle.context.specs.Objects.{Object, refutes, markedTwice, contradicts}
+use Rattle.context.specs.Objects.Laws.{marked-apart, apart-marked, contradicts-apart, apart-contradicts}
+use Rattle.session.specs.declared.Refusal.{Refusal}
+use Rattle.machine.specs.Checks.{mostAttributes, mostObjects, mostImplications, State, firstFailing, badLength, strange, strangeObject, strangeImplication, outsideM, sessionChecks, yesChecks, noChecks, force, question, questionStands, withQuestion, whole, tight, open-question, standing}
+use Rattle.machine.specs.Checks.Laws.{or-false, passed, none-failing, failing-append, passed-append, InM, Valid, valid, familiar-object, familiar-implication, standing-cases, Stands, stands}
+use Rattle.machine.specs.Machine.{Call, accept, reject, Answer, taken, refused, turn, performed, checksOf, perform}
+use Rattle.machine.specs.Machine.Laws.{perform-cases, perform-accepted}
+use Rattle.machine.specs.Facts.{Places, Fine, YesFits, NoFits}
+
+or-both : (a b : Bool) → a ≡ false → b ≡ false → (a || b) ≡ false
+or-both false b e f = f
+or-both true b e f = e
+
+-- ---- lengths and sets
+
+length-places : (most words : ℕ) → badLength most words ≡ false → Places most words
+unfolding badLength
+length-places most words e =
+    let t = or-false (not (eqb (words % 2) 0)) _ e in
+    record { even = eqb-true _ _ (not-false _ (t .0)); within = ltb-false _ _ (t .1) }
+
+places-length : (most words : ℕ) → Places most words → badLength most words ≡ false
+unfolding badLength
+places-length most words p = or-both _ _ (ap not (eq-eqb _ _ (p .even))) (le-ltb _ _ (p .within))
+
+in-object : (n : ℕ) (o : Object) → InM n o → strangeObject n o ≡ false
+unfolding strange
+in-object n o i = or-both _ _ (ap not (sub-inside (i .yes-marks))) (ap not (sub-inside (i .no-marks)))
+
+over-implication : (n : ℕ) (r : Implication ℕ) → Over words (full n) r → strangeImplication n r ≡ false
+unfolding strange
+over-implication n r h = or-both _ _ (ap not (sub-inside (h .premise))) (ap not (sub-inside (h .conclusion)))
+
+-- ---- checks 1 to 7
+
+module _ (s : State) (asked : List (Implication ℕ)) where
+  pub checks-fine : firstFailing (sessionChecks s asked) ≡ none → Fine s × All (Over words (full (s .n))) asked
+  unfolding sessionChecks outsideM
+  checks-fine e =
+      let p = passed (sessionChecks s asked) e in
+      let one = or-false (eqb (s .n) 0) _ (p .0) in
+      let two = or-false (badLength mostObjects (s .lent .rows)) _ (p .1 .0) in
+      let lists = or-false (badLength mostImplications (s .lent .list)) _ (two .1) in
+      let three = or-false (ltb (s .lent .rows / 2) (length (s .rows))) _ (p .1 .1 .0) in
+      let four = or-false (anywhere (strangeObject (s .n)) (s .rows)) _ (p .1 .1 .1 .0) in
+      let rest = or-false (anywhere (strangeImplication (s .n)) (force s ++ asked)) _ (four .1) in
+      let v = valid s asked p in
+      let over : All (Over words (full (s .n))) (force s ++ asked) =
+      λ r m. familiar-implication (s .n) r (anywhere-false _ (force s ++ asked) (rest .0) r m) in (
+        record {
+          some-attribute = omega (arith, eqb-false (s .n) 0 (one .0));
+          attributes = ltb-false _ _ (one .1);
+          row-words = length-places mostObjects _ (two .0);
+          list-words = length-places mostImplications _ (lists .0);
+          background-words = length-places mostImplications _ (lists .1);
+          row-places = ltb-false _ _ (three .0);
+          list-places = ltb-false _ _ (three .1);
+          rows-in = λ o m. familiar-object (s .n) o (anywhere-false _ (s .rows) (four .0) o m);
+          rules-in = v .over;
+          current-in = v .current;
+          once = λ o m. marked-apart o (anywhere-false _ (s .rows) (p .1 .1 .1 .1 .0) o m);
+          consistent = λ o m. contradicts-apart (force s) o (anywhere-false _ (s .rows) (p .1 .1 .1 .1 .1 .0) o m);
+          closed = eqb-true _ _ (not-false _ (p .1 .1 .1 .1 .1 .1 .0));
+        },
+        all-drop (force s) asked over,
+      )
+
+  pub fine-checks : Fine s → All (Over words (full (s .n))) asked → firstFailing (sessionChecks s asked) ≡ none
+  unfolding sessionChecks outsideM
+  fine-checks f over =
+      let one = or-both _ _ (ne-eqb (s .n) 0 (λ e. omega (arith, f .some-attribute, e))) (le-ltb _ _ (f .attributes)) in
+      let two = or-both _ _ (places-length mostObjects _ (f .row-words))
+      (or-both _ _ (places-length mostImplications _ (f .list-words)) (places-length mostImplications _ (f .background-words))) in
+      let three = or-both _ _ (le-ltb _ _ (f .row-places)) (le-ltb _ _ (f .list-places)) in
+      let four = or-both _ _ (all-anywhere _ (s .rows) (λ o m. in-object (s .n) o (f .rows-in o m)))
+      (or-both _ _ (all-anywhere _ (force s ++ asked) (λ r m. over-implication (s .n) r (all-append (force s) asked (f .rules-in) over r m)))
+      (ap not (sub-inside (f .current-in)))) in
+      let five = all-anywhere _ (s .rows) (λ o m. apart-marked o (f .once o m)) in
+      let six = all-anywhere _ (s .rows) (λ o m. apart-contradicts (force s) o (f .consistent o m)) in
+      none-failing (sessionChecks s asked) (one, (two, (three, (four, (five, (six, (ap not (eq-eqb _ _ (f .closed)), tt)))))))
+
+-- ---- the checks of a reply
+
+standing-question : (s : State) → Stands s → not (questionStands s) ≡ false
+unfolding questionStands
+standing-question s t =
+    standing-cases s (λ x. not (elim x as (λ y. Bool) [ whole ↦ false | tight ↦ false | open-question ↦ true ]) ≡ false)
+    (λ e. absurd (t .below e)) (λ n e. absurd (t .differs e)) (λ n d. refl)
+
+module _ (s : State) where
+  pub checks-yes : firstFailing (yesChecks s) ≡ none → YesFits s
+  unfolding yesChecks
+  checks-yes e =
+      let p = passed (yesChecks s) e in
+      record {
+        stands = stands s (not-false _ (p .0));
+        consistent = λ o m. contradicts-apart (withQuestion s) o (anywhere-false _ (s .rows) (p .1 .0) o m);
+        place = leb-false _ _ (p .1 .1 .0);
+      }
+
+  pub yes-checks : YesFits s → firstFailing (yesChecks s) ≡ none
+  unfolding yesChecks
+  yes-checks f =
+      let eleven = all-anywhere _ (s .rows) (λ o m. apart-contradicts (withQuestion s) o (f .consistent o m)) in
+      none-failing (yesChecks s) (standing-question s (f .stands), (eleven, (lt-leb _ _ (f .place), tt)))
+
+  module _ (o : Object) where
+    pub checks-no : firstFailing (noChecks s o) ≡ none → NoFits s o
+    unfolding noChecks
+    checks-no e =
+        let p = passed (noChecks s o) e in
+        let nine = or-false (strangeObject (s .n) o) _ (p .1 .0) in
+        record {
+          stands = stands s (not-false _ (p .0));
+          inside = familiar-object (s .n) o (nine .0);
+          once = marked-apart o (nine .1);
+          refuting = not-false _ (p .1 .1 .0);
+          consistent = contradicts-apart (force s) o (p .1 .1 .1 .0);
+          place = leb-false _ _ (p .1 .1 .1 .1 .0);
+        }
+
+    pub no-checks : NoFits s o → firstFailing (noChecks s o) ≡ none
+    unfolding noChecks
+    no-checks f =
+        let nine = or-both _ _ (in-object (s .n) o (f .inside)) (apart-marked o (f .once)) in
+        none-failing (noChecks s o)
+        (standing-question s (f .stands), (nine, (ap not (f .refuting), (apart-contradicts (force s) o (f .consistent), (lt-leb _ _ (f .place), tt)))))
+
+-- ---- an accepted reply
+
+not-refused : (r : Refusal) → refused r ≡ taken → ⊥
+not-refused r e = let z : _≡_ {A = ℕ} 0 1 = cc in omega arith
+
+-- what is taken has passed its checks
+taken-passed : (s : State) (c : Call) → perform s c .answer ≡ taken → firstFailing (checksOf s c) ≡ none
+taken-passed s c =
+    perform-cases s c (λ t. t .answer ≡ taken → firstFailing (checksOf s c) ≡ none) (λ e h. e) (λ r e h. absurd (not-refused r h))
+
+module _ (s : State) where
+  pub taken-yes : perform s accept .answer ≡ taken → Fine s × YesFits s
+  unfolding checksOf
+  taken-yes h =
+      let p = passed-append (sessionChecks s []) (yesChecks s) (taken-passed s accept h) in
+      (checks-fine s [] (none-failing _ (p .0)) .0, checks-yes s (none-failing _ (p .1)))
+
+  pub yes-taken : Fine s → YesFits s → perform s accept .answer ≡ taken
+  unfolding checksOf performed
+  yes-taken f y =
+      let e = failing-append (sessionChecks s []) (yesChecks s) (passed _ (fine-checks s [] f (all-nil _))) ∙ yes-checks s y in
+      ap (λ t. t .answer) (perform-accepted s accept e)
+
+  module _ (o : Object) where
+    pub taken-no : perform s (reject o) .answer ≡ taken → Fine s × NoFits s o
+    unfolding checksOf
+    taken-no h =
+        let p = passed-append (sessionChecks s []) (noChecks s o) (taken-passed s (reject o) h) in
+        (checks-fine s [] (none-failing _ (p .0)) .0, checks-no s o (none-failing _ (p .1)))
+
+    pub no-taken : Fine s → NoFits s o → perform s (reject o) .answer ≡ taken
+    unfolding checksOf performed
+    no-taken f y =
+        let e = failing-append (sessionChecks s []) (noChecks s o) (passed _ (fine-checks s [] f (all-nil _))) ∙ no-checks s o y in
+        ap (λ t. t .answer) (perform-accepted s (reject o) e)

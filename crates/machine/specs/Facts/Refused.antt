@@ -1,0 +1,172 @@
+-- The place of a refusal (01, "Refusals in checking order"): in 5, in 6 and in 11 for a yes the lowest row of which the check speaks, else 0.
+-- `right-place` says so of every refused call, and `opening-place` of a refused opening; `small-number` and `opening-number`, that the
+-- numbers are 1 to 12, and 1 to 7 at the opening.
+use mathlib.Core.Path.{_≡_, refl, sym, ap, _∙_, subst}
+use mathlib.Core.Bool.{Bool, true, false}
+use mathlib.Core.List.{List, [], _∷_, _++_, List·Memᴰ·head, List·Memᴰ·tail}
+use mathlib.Core.Option.{Option, none, some, Option·some-ne-none}
+use Prim.Native.Nat.{ℕ, _≤_, _<_}
+use native.Mathlib.Omega.{arith}
+use lib.ListN.{length, getD}
+use borrow.Author.Tests.{ltb-true}
+use Rattle.theory.specs.Lists.{All}
+use Rattle.theory.specs.Lists.Laws.{all-nil, all-cons, all-append}
+use Rattle.theory.specs.Implications.{Implication}
+use Rattle.context.specs.Places.{lowest, anywhere}
+use Rattle.context.specs.Places.Laws.{lowest-at}
+use Rattle.context.specs.Objects.{Object, markedTwice, contradicts}
+use Rattle.session.specs.declared.Refusal.{Refusal}
+use Rattle.session.specs.Refusals.{refusal}
+use Rattle.machine.specs.Checks.{Lent, State, Check, firstFailing, sessionChecks, yesChecks, noChecks, force, withQuestion}
+use Rattle.machine.specs.Machine.{Call, step, accept, reject, follow, refute, refused, checksOf, perform, Opening, opened, rejected, opening, openingState}
+use Rattle.machine.specs.Machine.Laws.{perform-cases}
+use Rattle.machine.specs.Facts.Kept.{no-refusal, performed-answers, failing-number}
+
+-- the lowest place of a list at which a test holds
+pub record Lowest {A : Type 0} (f : A → Bool) (l : List A) (place : ℕ) : Type 0 where
+  pub within : place < length l
+  pub holds : (d : A) → f (getD l place d) ≡ true
+  pub first : (d : A) (i : ℕ) → i < place → f (getD l i d) ≡ false
+
+pub record RightPlace (s : State) (c : Call) (r : Refusal) : Type 0 where
+  pub five : r .number ≡ 5 → Lowest markedTwice (s .rows) (r .place)
+  pub six : r .number ≡ 6 → Lowest (contradicts (force s)) (s .rows) (r .place)
+  pub eleven : c ≡ accept → r .number ≡ 11 → Lowest (contradicts (withQuestion s)) (s .rows) (r .place)
+  pub other : (r .number ≡ 5 → ⊥) → (r .number ≡ 6 → ⊥) → (c ≡ accept → r .number ≡ 11 → ⊥) → r .place ≡ 0
+
+-- ---- the check that fails
+
+-- a refusal is that of a check of the list that fails
+failing-check : (P : Refusal → Type 0) (cs : List Check) → All (λ c. c .fails ≡ true → P (refusal (c .number) (c .place))) cs
+    → (r : Refusal) → firstFailing cs ≡ some r → P r
+unfolding firstFailing
+failing-check P [] all r e = absurd (Option·some-ne-none _ (sym e))
+failing-check P (c ∷ cs) all r e = go (c .fails) refl (failing-check P cs (λ x m. all x (List·Memᴰ·tail m)) r) e
+  where
+    go : (b : Bool) → c .fails ≡ b → (firstFailing cs ≡ some r → P r)
+        → _≡_ {A = Option Refusal} (elim b [ true ↦ some (refusal (c .number) (c .place)) | false ↦ firstFailing cs ]) (some r) → P r
+    go true f ih h =
+        let same : refusal (c .number) (c .place) ≡ r = cc in
+        subst P same (all c (List·Memᴰ·head refl) f)
+    go false f ih h = ih h
+
+lowest-row : {A : Type 0} (f : A → Bool) (l : List A) → anywhere f l ≡ true → Lowest f l (lowest f l)
+unfolding anywhere
+lowest-row f l e =
+    let h = ltb-true (lowest f l) (length l) e in
+    record { within = h; holds = λ d. lowest-at f l d h .0; first = λ d. lowest-at f l d h .1 }
+
+module _ (s : State) (c : Call) where
+  -- a check with another number and the place 0
+  plain : (k : ℕ) → (k ≡ 5 → ⊥) → (k ≡ 6 → ⊥) → (c ≡ accept → k ≡ 11 → ⊥) → RightPlace s c (refusal k 0)
+  plain k a b d = record { five = λ e. absurd (a e); six = λ e. absurd (b e); eleven = λ e h. absurd (d e h); other = λ _ _ _. refl }
+
+  small : (k : ℕ) → k < 5 → RightPlace s c (refusal k 0)
+  small k h = plain k (λ e. omega arith) (λ e. omega arith) (λ _ e. omega arith)
+
+  session-places : (asked : List (Implication ℕ)) → All (λ x. x .fails ≡ true → RightPlace s c (refusal (x .number) (x .place))) (sessionChecks s asked)
+  unfolding sessionChecks
+  session-places asked =
+      all-cons (λ _. small 1 (omega arith)) (all-cons (λ _. small 2 (omega arith)) (all-cons (λ _. small 3 (omega arith)) (all-cons (λ _. small 4 (omega arith))
+      (all-cons (λ f. record { five = λ _. lowest-row _ (s .rows) f; six = λ e. absurd (omega arith); eleven = λ _ e. absurd (omega arith); other = λ a _ _. absurd (a refl) })
+      (all-cons (λ f. record { five = λ e. absurd (omega arith); six = λ _. lowest-row _ (s .rows) f; eleven = λ _ e. absurd (omega arith); other = λ _ a _. absurd (a refl) })
+      (all-cons (λ _. plain 7 (λ e. omega arith) (λ e. omega arith) (λ _ e. omega arith)) (all-nil _)))))))
+
+  -- a check of a reply with the place 0
+  late : (k : ℕ) → 7 < k → (c ≡ accept → k ≡ 11 → ⊥) → RightPlace s c (refusal k 0)
+  late k h d = plain k (λ e. omega arith) (λ e. omega arith) d
+
+yes-places : (s : State) → All (λ x. x .fails ≡ true → RightPlace s accept (refusal (x .number) (x .place))) (yesChecks s)
+unfolding yesChecks
+yes-places s =
+    all-cons (λ _. late s accept 8 (omega arith) (λ _ e. omega arith))
+    (all-cons (λ f. record { five = λ e. absurd (omega arith); six = λ e. absurd (omega arith); eleven = λ _ _. lowest-row _ (s .rows) f; other = λ _ _ a. absurd (a refl refl) })
+    (all-cons (λ _. late s accept 12 (omega arith) (λ _ e. omega arith)) (all-nil _)))
+
+no-is-no-yes : (o : Object) → reject o ≡ accept → ⊥
+no-is-no-yes o e = let z : _≡_ {A = ℕ} 0 1 = cc in omega arith
+
+no-places : (s : State) (o : Object) → All (λ x. x .fails ≡ true → RightPlace s (reject o) (refusal (x .number) (x .place))) (noChecks s o)
+unfolding noChecks
+no-places s o =
+    let at : (k : ℕ) → 7 < k → RightPlace s (reject o) (refusal k 0) = λ k h. late s (reject o) k h (λ e _. no-is-no-yes o e) in
+    all-cons (λ _. at 8 (omega arith)) (all-cons (λ _. at 9 (omega arith)) (all-cons (λ _. at 10 (omega arith)) (all-cons (λ _. at 11 (omega arith))
+    (all-cons (λ _. at 12 (omega arith)) (all-nil _)))))
+
+all-places : (s : State) (c : Call) → All (λ x. x .fails ≡ true → RightPlace s c (refusal (x .number) (x .place))) (checksOf s c)
+unfolding checksOf
+all-places s step = session-places s step []
+all-places s accept = all-append (sessionChecks s []) (yesChecks s) (session-places s accept []) (yes-places s)
+all-places s (reject o) = all-append (sessionChecks s []) (noChecks s o) (session-places s (reject o) []) (no-places s o)
+all-places s (follow q) = session-places s (follow q) (q ∷ [])
+all-places s (refute q) = session-places s (refute q) (q ∷ [])
+
+-- a refused call is refused by the first of its checks that fails
+refused-failing : (s : State) (c : Call) (r : Refusal) → perform s c .answer ≡ refused r → firstFailing (checksOf s c) ≡ some r
+refused-failing s c r =
+    perform-cases s c (λ t. t .answer ≡ refused r → firstFailing (checksOf s c) ≡ some r) (λ e h. absurd (no-refusal _ r (performed-answers s c) h))
+    (λ x e h. let same : x ≡ r = cc in e ∙ ap some same)
+
+pub right-place : (s : State) (c : Call) (r : Refusal) → perform s c .answer ≡ refused r → RightPlace s c r
+right-place s c r h = failing-check (RightPlace s c) (checksOf s c) (all-places s c) r (refused-failing s c r h)
+
+-- ---- the numbers
+
+abbrev pub Between : ℕ → ℕ → ℕ → Type 0
+Between a b k = (a ≤ k) × (k ≤ b)
+
+session-numbers : (s : State) (asked : List (Implication ℕ)) → All (λ x. Between 1 7 (x .number)) (sessionChecks s asked)
+unfolding sessionChecks
+session-numbers s asked =
+    all-cons (omega arith) (all-cons (omega arith) (all-cons (omega arith) (all-cons (omega arith) (all-cons (omega arith) (all-cons (omega arith)
+    (all-cons (omega arith) (all-nil _)))))))
+
+yes-numbers : (s : State) → All (λ x. Between 1 12 (x .number)) (yesChecks s)
+unfolding yesChecks
+yes-numbers s = all-cons (omega arith) (all-cons (omega arith) (all-cons (omega arith) (all-nil _)))
+
+no-numbers : (s : State) (o : Object) → All (λ x. Between 1 12 (x .number)) (noChecks s o)
+unfolding noChecks
+no-numbers s o = all-cons (omega arith) (all-cons (omega arith) (all-cons (omega arith) (all-cons (omega arith) (all-cons (omega arith) (all-nil _)))))
+
+all-numbers : (s : State) (c : Call) → All (λ x. Between 1 12 (x .number)) (checksOf s c)
+unfolding checksOf
+all-numbers s c = go c
+  where
+    early : (asked : List (Implication ℕ)) → All (λ x. Between 1 12 (x .number)) (sessionChecks s asked)
+    early asked x m = let h = session-numbers s asked x m in omega arith
+
+    go : (d : Call) → All (λ x. Between 1 12 (x .number)) (checksOf s d)
+    go step = early []
+    go accept = all-append (sessionChecks s []) (yesChecks s) (early []) (yes-numbers s)
+    go (reject o) = all-append (sessionChecks s []) (noChecks s o) (early []) (no-numbers s o)
+    go (follow q) = early (q ∷ [])
+    go (refute q) = early (q ∷ [])
+
+pub small-number : (s : State) (c : Call) (r : Refusal) → perform s c .answer ≡ refused r → Between 1 12 (r .number)
+small-number s c r h = failing-number (Between 1 12) (checksOf s c) (all-numbers s c) r (refused-failing s c r h)
+
+-- ---- the opening
+
+opening-failing : (n : ℕ) (lent : Lent) (background : List (Implication ℕ)) (rows : List Object) (r : Refusal) → opening n lent background rows ≡ rejected r
+    → firstFailing (sessionChecks (openingState n lent background rows) []) ≡ some r
+unfolding opening
+opening-failing n lent background rows r = go (firstFailing (sessionChecks (openingState n lent background rows) [])) refl
+  where
+    go : (v : Option Refusal) → firstFailing (sessionChecks (openingState n lent background rows) []) ≡ v
+        → elim v as (λ x. Opening) [ none ↦ opened (openingState n lent background rows) | some x ↦ rejected x ] ≡ rejected r
+        → firstFailing (sessionChecks (openingState n lent background rows) []) ≡ some r
+    go none e h = absurd (let z : _≡_ {A = ℕ} 0 1 = cc in omega arith)
+    go (some x) e h = let same : x ≡ r = cc in e ∙ ap some same
+
+pub opening-number : (n : ℕ) (lent : Lent) (background : List (Implication ℕ)) (rows : List Object) (r : Refusal)
+    → opening n lent background rows ≡ rejected r → Between 1 7 (r .number)
+opening-number n lent background rows r h =
+    failing-number (Between 1 7) (sessionChecks (openingState n lent background rows) []) (session-numbers (openingState n lent background rows) []) r
+    (opening-failing n lent background rows r h)
+
+pub opening-place : (n : ℕ) (lent : Lent) (background : List (Implication ℕ)) (rows : List Object) (r : Refusal)
+    → opening n lent background rows ≡ rejected r → RightPlace (openingState n lent background rows) step r
+opening-place n lent background rows r h =
+    let s = openingState n lent background rows in
+    failing-check (RightPlace s step) (sessionChecks s []) (session-places s step []) r (opening-failing n lent background rows r h)

@@ -1,0 +1,2 @@
+pub mod Viewed
+pub mod Naming

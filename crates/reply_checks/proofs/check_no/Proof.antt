@@ -1,0 +1,83 @@
+-- What was found decides: a refusal is the reply's; where no question stands, check 8 fails; else the checks behind it decide.
+use mathlib.Core.Path.{_≡_, sym, ap, _∙_}
+use mathlib.Core.List.{List, []}
+use mathlib.Core.Option.{none}
+use lib.ListN.{drop}
+use borrow.Author.Needs.{needs}
+use Rattle.context.specs.Objects.{object}
+use Rattle.machine.specs.Checks.{State, Check, firstFailing, sessionChecks, noChecks}
+use Rattle.machine.specs.Checks.Laws.{checked-small}
+use Rattle.machine.specs.Machine.{Call, reject}
+use Rattle.machine.specs.Calls.{stateOf}
+use Rattle.session_checks.specs.Verdicts.{verdictOf}
+use Rattle.reply_checks.specs.declared.Standing.{Standing}
+use Rattle.reply_checks.specs.Outcomes.{questionOf, askingAfter, asking}
+use Rattle.reply_checks.specs.Outcomes.Laws.{askingFrom, found-question, no-found}
+use Rattle.reply_checks.proofs.check_no.Statement.{statement}
+use Rattle.reply_checks.proofs.check_no.Tie as tie
+
+abbrev start : tie.After-find-standing → tie.Start
+start c = c .before .before .before .before
+
+abbrev state : tie.After-find-standing → State
+state c = let a = start c .args in stateOf (a .session) (a .rows .now) (a .list .now) (a .background .now)
+
+abbrev call : tie.After-find-standing → Call
+call c = reject (object (start c .args .yes) (start c .args .no))
+
+-- the checks behind check 8
+abbrev behind : tie.After-find-standing → List Check
+behind c = drop 1 (noChecks (state c) (object (start c .args .yes) (start c .args .no)))
+
+-- the reply, by what was found
+decided : (c : tie.After-find-standing) (x : Standing) → c .find-standing .result ≡ x → askingFrom (behind c) x ≡ asking (state c) (call c)
+decided c x e = sym (no-found (state c) _ ∙ ap (askingFrom (behind c)) (sym (c .find-standing .ensures) ∙ e))
+
+-- where a question was found
+abbrev opened : tie.After-known-told → tie.After-find-standing
+opened c = c .before .before .before
+
+question-found : (c : tie.After-known-told)
+    → let s = state (opened c) in
+    (c .before .standing .given .0 .0 ≡ questionOf s) × (firstFailing (sessionChecks s []) ≡ none)
+question-found c = found-question (state (opened c)) _ (sym (c .before .standing .given .1) ∙ opened c .find-standing .ensures)
+
+behind-decided : (c : tie.After-check-row) → verdictOf (c .check-row .result) ≡ firstFailing (behind (opened (c .before)))
+behind-decided c = c .check-row .ensures
+
+check-row-requires : tie.Need-check-row-requires
+check-row-requires c κs =
+    let q = question-found c in
+    (checked-small (state (opened c)) [] (q .1) .0, q .0)
+
+returns : tie.Need-returns
+returns c =
+    let e = c .before .before in
+    c .ask .ensures ∙ ap (askingAfter (e .before .standing .given .0 .0)) (behind-decided (c .before)) ∙ decided (opened e) _ (e .before .standing .given .1)
+
+returns-2 : tie.Need-returns-2
+returns-2 c = decided (c .before .before .before) _ (c .before .standing2 .given .1)
+
+returns-3 : tie.Need-returns-3
+returns-3 c = c .nothing-asked .ensures ∙ decided (c .before .before .before) _ (c .before .enum-told .given .1)
+
+returns-4 : tie.Need-returns-4
+returns-4 c = c .nothing-asked2 .ensures ∙ decided (c .before .before .before) _ (c .before .enum-told2 .given .1)
+
+pub check-no-spec : {M : Type 1} → statement M
+check-no-spec =
+    tie.close
+    (tie.spec
+    (λ c κs. search needs)
+    (λ c. search needs)
+    check-row-requires
+    (λ c κs. search needs)
+    (λ c. search needs)
+    (λ c. search needs)
+    (λ c κs. search needs)
+    (λ c. search needs)
+    (λ c κs. search needs)
+    returns
+    returns-2
+    returns-3
+    returns-4)

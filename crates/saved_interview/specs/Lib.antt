@@ -1,0 +1,3 @@
+pub mod Demand3Whole
+pub mod TakingUp
+pub mod Trace

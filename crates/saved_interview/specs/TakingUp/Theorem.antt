@@ -1,0 +1,45 @@
+-- Two saved interviews that were taken up hold the same list (`same-list-taken-up`); and every one that was taken up has demand 3 and its trace
+-- (`held`).
+use mathlib.Core.Path.{_≡_, refl, subst}
+use mathlib.Core.Bool.{Bool, true, false}
+use mathlib.Core.List.{List}
+use Prim.Native.Nat.{ℕ}
+use Rattle.session.specs.declared.Session.{Session}
+use Rattle.session.specs.Choice.{chosen}
+use Rattle.coded_calls.specs.declared.Answer.{Answer as Coded}
+use Rattle.call_logs.specs.Replay.{LogWords, AllMade, NoneMade, ReplaySays}
+use Rattle.call_logs.specs.declared.Log.{Log}
+use Rattle.call_logs.specs.declared.Log.the-variants.{Replayed, Short}
+use Rattle.saved_interview.specs.Demand3Whole.Theorem.{demand-3-whole, same-list-whole}
+use Rattle.saved_interview.specs.Trace.Proof.{trace}
+use Rattle.saved_interview.specs.TakingUp.{TakenUp, interview, Held, Outcome, SameListTakenUp}
+
+pub held : (n used : ℕ) (background calls : List ℕ) (before : Session) (words : LogWords) (x : Coded) (after : Session) (words′ : LogWords)
+    → TakenUp n used background calls before words x after words′ → Held n used background calls before words x after words′
+held n used background calls before words x after words′ t =
+    let i = interview n used background calls before words x after words′ t in
+    record { taken-up = t; demand-3 = demand-3-whole i; trace = trace i }
+
+pub same-list-taken-up : (n : ℕ) (background : List ℕ) → SameListTakenUp n background
+same-list-taken-up n background used used′ calls calls′ before before′ words words′ x x′ after after′ left left′ h h′ f f′ t r r′ =
+    same-list-whole n background (interview n used background calls before words x after left (h .taken-up))
+    (interview n used′ background calls′ before′ words′ x′ after′ left′ (h′ .taken-up)) f f′ t r r′
+
+-- ---- what a replay says of its log
+
+module _ (background calls : List ℕ) (s : Session) (before : LogWords) (s′ : Session) (after : LogWords) where
+  pub all-made : (log : Log) → log ≡ Replayed → ReplaySays background calls s before s′ after log → AllMade background calls s before s′ after
+  all-made log e h = subst (ReplaySays background calls s before s′ after) e h
+
+  pub none-made : (log : Log) → log ≡ Short → ReplaySays background calls s before s′ after log → NoneMade background calls s before s′ after
+  none-made log e h = subst (ReplaySays background calls s before s′ after) e h
+
+-- ---- the record after it
+
+-- what is said of the record after it holds of one that is stored only where it changed
+pub outcome-kept : (n used : ℕ) (background calls : List ℕ) (before : Session) (words : LogWords) (x : Coded) (after : Session) (words′ : LogWords) (changed : Bool)
+    → Outcome n used background calls before words x after words′ × (changed ≡ false → after ≡ before)
+    → Outcome n used background calls before words x (chosen changed after before) words′
+outcome-kept n used background calls before words x after words′ true h = h .0
+outcome-kept n used background calls before words x after words′ false h =
+    subst (λ z. Outcome n used background calls before words x z words′) (h .1 refl) (h .0)

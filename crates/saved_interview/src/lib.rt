@@ -1,0 +1,44 @@
+// A saved interview taken up again: a session is opened, and a log of calls is made on it.
+ghost use Rattle.saved_interview.specs.TakingUp.{TakesUpTo};
+
+// Opens a session and makes each call of a log, with its answer written down. Nothing is done where the opening is refused, and where the
+// answers have no room for all calls.
+pub fn open_and_replay(
+    session: session::Session,
+    n: usize,
+    used: usize,
+    rows: &mut [u64],
+    list: &mut [u64],
+    background: &[u64],
+    calls: &[u64],
+    answers: &mut [u64],
+) -> coded_calls::Turn
+    ensures { λ r. ⌜ TakesUpTo n used session rows list background calls answers (r .answer) (r .session) (r .changed) ⌝ }
+{
+    let opened = session_calls::open(n, used, rows, list, background);
+    let start = match opened {
+        session_calls::Opened::Open(start) => start,
+        session_calls::Opened::Refused(refusal) => {
+            return coded_calls::Turn {
+                answer: coded_calls::answer_of_refusal(refusal),
+                session,
+                changed: false,
+            };
+        }
+    };
+    let replayed = call_logs::replay(start, rows, list, background, calls, answers);
+    let log = replayed.log;
+    let after = replayed.session;
+    match log {
+        call_logs::Log::Replayed => coded_calls::Turn {
+            answer: coded_calls::in_words(coded_calls::Answer::TAKEN, 0, 0),
+            session: after,
+            changed: true,
+        },
+        call_logs::Log::Short => coded_calls::Turn {
+            answer: coded_calls::in_words(coded_calls::Answer::NO_ROOM, 0, 0),
+            session,
+            changed: false,
+        },
+    }
+}

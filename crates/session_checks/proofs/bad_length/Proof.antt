@@ -1,0 +1,20 @@
+-- The two tests are those of the definition, and the second is made only where the length is even.
+use borrow.Author.Needs.{needs}
+use borrow.Author.Tests.{eq-eqb, ne-eqb}
+use Rattle.machine.specs.Checks.{badLength}
+use Rattle.session_checks.proofs.bad_length.Statement.{statement}
+use Rattle.session_checks.proofs.bad_length.Tie as tie
+
+returns : tie.Need-returns
+unfolding badLength
+returns c = rw (ne-eqb _ _ (c .if1 .taken))
+
+mul-result : tie.Need-mul-result
+mul-result c = search needs
+
+returns-2 : tie.Need-returns-2
+unfolding badLength
+returns-2 c = rw (eq-eqb _ _ (c .if1 .left))
+
+pub bad-length-spec : {M : Type 1} → statement M
+bad-length-spec = tie.close (tie.spec returns mul-result returns-2)

@@ -1,0 +1,28 @@
+-- A walk that failed stays as it is, and one that ended goes on over the empty lines.
+use mathlib.Core.Path.{sym, ap, _∙_}
+use borrow.Author.Needs.{needs}
+use Rattle.table_layout.specs.Layout.{thenRest}
+use Rattle.table_layout.proofs.walk_rest.Statement.{statement}
+use Rattle.table_layout.proofs.walk_rest.Tie as tie
+
+enum-known-walked : tie.Need-enum-known-walked
+enum-known-walked c = search needs
+
+rest-of-requires : tie.Need-rest-of-requires
+rest-of-requires c κs = search needs
+
+enum-known-walked-2 : tie.Need-enum-known-walked-2
+enum-known-walked-2 c = search needs
+
+returns : tie.Need-returns
+returns c =
+    let w = c .before .before in
+    c .rest-of .ensures ∙ sym (ap (thenRest (w .before .before .before .args .file .now)) (w .walked .given .1))
+
+returns-2 : tie.Need-returns-2
+returns-2 c =
+    let w = c .before in
+    sym (ap (thenRest (w .before .before .before .args .file .now)) (w .walked2 .given .1))
+
+pub walk-rest-spec : {M : Type 1} → statement M
+walk-rest-spec = tie.close (tie.spec enum-known-walked rest-of-requires enum-known-walked-2 returns returns-2)

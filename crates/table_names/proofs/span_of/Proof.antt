@@ -1,0 +1,50 @@
+-- Of a layout that is found the line so many lines further on is the name.
+use mathlib.Core.Path.{_≡_, sym, ap, _∙_}
+use mathlib.Core.Bool.{true}
+use lib.ListN.{drop}
+use borrow.Author.Needs.{needs}
+use borrow.Author.Tests.{not-true, not-false}
+use Rattle.table_lines.specs.declared.Line.{Line}
+use Rattle.table_lines.specs.Lines.{lineOf}
+use Rattle.table_layout.specs.Layout.{finds}
+use Rattle.table_names.specs.Names.{span}
+use Rattle.table_names.specs.Names.Laws.{span-unfound, span-past, span-there}
+use Rattle.table_names.proofs.span_of.Statement.{statement}
+use Rattle.table_names.proofs.span_of.Tie as tie
+
+abbrev start : tie.After-is-found → tie.Start
+start c = c .before .before
+
+-- the layout is found
+found : (c : tie.Else1) → let a = start (c .before) .args in finds (a .file .now) (a .layout) ≡ true
+found c = sym (c .before .is-found .ensures) ∙ not-false _ (c .if1 .left)
+
+is-found-requires : tie.Need-is-found-requires
+is-found-requires c κs = search needs
+
+returns : tie.Need-returns
+returns c =
+    let a = start (c .before) .args in
+    sym (span-unfound _ (a .count) (a .start) (a .number) (a .file .now) (sym (c .before .is-found .ensures) ∙ not-true _ (c .if1 .taken)))
+
+returns-2 : tie.Need-returns-2
+returns-2 c =
+    let a = start (c .before .before) .args in
+    sym (span-past (finds (a .file .now) (a .layout)) (a .count) (a .start) (a .number) (a .file .now) (c .if2 .taken))
+
+skip-requires : tie.Need-skip-requires
+skip-requires c κs = search needs
+
+line-at-requires : tie.Need-line-at-requires
+line-at-requires c κs = search needs
+
+returns-3 : tie.Need-returns-3
+returns-3 c =
+    let d = c .before .before in
+    let a = start (d .before .before) .args in
+    ap (λ (l : Line). span (c .before .skip .result) (l .size)) (c .line-at .ensures)
+    ∙ ap (λ at. span at (lineOf (drop at (a .file .now)) .size)) (c .before .skip .ensures)
+    ∙ sym (span-there _ (a .count) (a .start) (a .number) (a .file .now) (found (d .before)) (d .if2 .left))
+
+pub span-of-spec : {M : Type 1} → statement M
+span-of-spec = tie.close (tie.spec is-found-requires returns returns-2 skip-requires line-at-requires returns-3)

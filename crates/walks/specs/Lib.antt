@@ -1,0 +1,7 @@
+pub mod Walks
+pub mod Behind
+pub mod Calls
+pub mod Lent
+pub mod Code
+pub mod Tools
+pub mod Lending

@@ -1,0 +1,1 @@
+// The walks by hand have no code: they stand in specs/.

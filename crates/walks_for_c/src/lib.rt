@@ -1,0 +1,1 @@
+// The walks of the functions for C have no code: they stand in specs/.

@@ -1,0 +1,77 @@
+/* A record or a layout in memory that cannot be written: the calls that only read, a step that asks and every refusal leave it alone. */
+#define _DEFAULT_SOURCE
+#include "zundrafl.h"
+#include <stdio.h>
+#include <string.h>
+#include <sys/mman.h>
+
+static int failures;
+
+static void expect(const char *what, const zundrafl_answer *answer, uint64_t code)
+{
+    if (answer->code != code) {
+        printf("%s: code %llu, not %llu\n", what, (unsigned long long)answer->code, (unsigned long long)code);
+        failures++;
+    }
+}
+
+/* a copy that can be read and not written */
+static void *locked(const void *from, size_t size)
+{
+    void *page = mmap(NULL, 4096, PROT_READ | PROT_WRITE, MAP_PRIVATE | MAP_ANONYMOUS, -1, 0);
+    if (page == MAP_FAILED)
+        return NULL;
+    memcpy(page, from, size);
+    mprotect(page, 4096, PROT_READ);
+    return page;
+}
+
+int main(void)
+{
+    static const uint8_t file[] = "B\n\n1\n2\n\nrow\none\ntwo\nX.\n";
+    uint64_t rows[4] = {0}, list[4] = {0}, background[2] = {0};
+    zundrafl_session session = {0, 0, 0, 0};
+    zundrafl_layout layout = {0, 0, 0, 0, 0};
+    zundrafl_answer answer;
+    zundrafl_open(&session, 2, 0, rows, 4, list, 4, background, 0, &answer);
+    expect("open", &answer, ZUNDRAFL_TAKEN);
+    zundrafl_session *asked = locked(&session, sizeof session);
+    zundrafl_session finished = {2, 0, 0, 3};
+    zundrafl_session *full = locked(&finished, sizeof finished);
+    zundrafl_open_table(&layout, file, sizeof file - 1, &answer);
+    expect("open_table", &answer, ZUNDRAFL_TAKEN);
+    zundrafl_layout *kept = locked(&layout, sizeof layout);
+    if (asked == NULL || full == NULL || kept == NULL)
+        return 1;
+
+    zundrafl_follows(asked, rows, 4, list, 4, background, 0, 0, 1, &answer);
+    expect("follows", &answer, ZUNDRAFL_FOLLOWS);
+    zundrafl_refuted(asked, rows, 4, list, 4, background, 0, 0, 1, &answer);
+    expect("refuted", &answer, ZUNDRAFL_UNREFUTED);
+    zundrafl_step(asked, rows, 4, list, 4, background, 0, &answer);
+    expect("a step that asks", &answer, ZUNDRAFL_ASKED);
+    zundrafl_step(full, rows, 4, list, 4, background, 0, &answer);
+    expect("a step that is finished", &answer, ZUNDRAFL_FINISHED);
+    zundrafl_step(asked, rows, 3, list, 4, background, 0, &answer);
+    expect("a refused step", &answer, 2);
+    zundrafl_accept(full, rows, 4, list, 4, background, 0, &answer);
+    expect("a refused yes", &answer, 8);
+    zundrafl_accept(asked, rows, 4, list, 0, background, 0, &answer);
+    expect("a yes without a place", &answer, 12);
+    zundrafl_reject(asked, rows, 4, list, 4, background, 0, 4, 1, &answer);
+    expect("a refused no", &answer, 9);
+    zundrafl_open(asked, 65, 0, rows, 4, list, 4, background, 0, &answer);
+    expect("a refused opening", &answer, 1);
+    zundrafl_replay(asked, rows, 4, list, 4, background, 0, background, 2, list, 0, &answer);
+    expect("an empty log", &answer, ZUNDRAFL_TAKEN);
+    zundrafl_object_name(kept, file, sizeof file - 1, 0, &answer);
+    expect("a row's name", &answer, ZUNDRAFL_TAKEN);
+    zundrafl_attribute_name(kept, file, sizeof file - 1, 2, &answer);
+    expect("a name past the last", &answer, 3);
+    zundrafl_open_table(kept, file, 3, &answer);
+    expect("a refused file", &answer, 23);
+    zundrafl_read_marks(kept, file, sizeof file - 1, rows, 1, &answer);
+    expect("marks into an odd number of words", &answer, 2);
+    printf("records and layouts that cannot be written: %d failures\n", failures);
+    return failures != 0;
+}
