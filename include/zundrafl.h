@@ -6,8 +6,12 @@
  *
  * Every call writes *answer and touches nothing else that it is not said to write: a record or layout that does not change is not
  * stored to, and where it is const it is only read. A refusal has its number as the code and its place as the first value; it changes
- * neither record nor words. Every pointer must be aligned, not null and valid for its length,
- * also where that is 0, and what a call may write must overlap nothing else that it is lent; nothing else is asked of the caller.
+ * neither record nor words.
+ *
+ * Memory is yours: nothing is allocated, no pointer is kept behind a call, and there is no global state, so that threads with sessions
+ * of their own need no lock, and threads that only read may share one. Every pointer must be aligned, not null and valid for its
+ * length, and what a call may write must overlap nothing else that it is lent; nothing else is asked of the caller. Where a length is
+ * 0, pass the address of any object of the type.
  */
 #ifndef ZUNDRAFL_H
 #define ZUNDRAFL_H
@@ -19,6 +23,8 @@
 extern "C" {
 #endif
 
+enum { ZUNDRAFL_VERSION_MAJOR = 0, ZUNDRAFL_VERSION_MINOR = 2 }; /* minor: something was added; major: something was changed */
+
 enum {
     ZUNDRAFL_MOST_ATTRIBUTES = 64,
     ZUNDRAFL_MOST_ROWS = 512,  /* two words each */
@@ -26,7 +32,32 @@ enum {
     ZUNDRAFL_MOST_BYTES = 65535
 };
 
-/* codes of answers that are no refusals */
+/* codes of refusals, below 100 */
+enum {
+    ZUNDRAFL_BAD_N = 1,             /* n is not 1 to 64 */
+    ZUNDRAFL_BAD_LENGTH = 2,        /* a number of words is odd or above its limit */
+    ZUNDRAFL_NO_SUCH_PLACE = 3,     /* more rows, rules or answers than words for them; no such name; another file's layout */
+    ZUNDRAFL_OUTSIDE = 4,           /* an attribute outside the n */
+    ZUNDRAFL_MARKED_TWICE = 5,      /* row `place` marks an attribute both yes and no */
+    ZUNDRAFL_ROW_CONTRADICTS = 6,   /* row `place` contradicts the rules in force */
+    ZUNDRAFL_NOT_CLOSED = 7,        /* the current set is not closed */
+    ZUNDRAFL_NO_QUESTION = 8,       /* a reply, and no question stands */
+    ZUNDRAFL_BAD_ROW = 9,           /* the offered row: an attribute outside the n, or marked both ways */
+    ZUNDRAFL_NOT_REFUTING = 10,     /* the offered row does not refute the question */
+    ZUNDRAFL_REPLY_CONTRADICTS = 11, /* with the reply row `place` (yes) or the offered row (no) contradicts */
+    ZUNDRAFL_FULL = 12,             /* no place for the row or the rule */
+    ZUNDRAFL_FILE_TOO_LONG = 21,
+    ZUNDRAFL_NO_B = 22,             /* the first line is not `B` */
+    ZUNDRAFL_BAD_COUNT = 23,        /* a count line is missing or is not 1 to 4 digits */
+    ZUNDRAFL_COUNT_OUT_OF_RANGE = 24,
+    ZUNDRAFL_BAD_TITLE = 25,        /* the title or the empty line */
+    ZUNDRAFL_BAD_NAME = 26,
+    ZUNDRAFL_BAD_MARKS = 27,
+    ZUNDRAFL_NOT_AT_END = 28,       /* a line after the last one needed is not empty */
+    ZUNDRAFL_MARK_UNKNOWN = 29      /* in a table that has to be complete */
+};
+
+/* codes of answers that are no refusals, 100 and above */
 enum {
     ZUNDRAFL_FINISHED = 100,
     ZUNDRAFL_MOVED = 101,
@@ -51,6 +82,15 @@ typedef struct {
     uint64_t code, first, second;
 } zundrafl_answer;
 
+/* Whether an answer is a refusal. */
+static inline int zundrafl_is_refusal(const zundrafl_answer *answer) {
+    return answer->code < 100;
+}
+
+/* Writes what a refusal number means, and what a person does next, to the start of a buffer, without a line end, and gives the number of
+ * bytes written: at most 128, and 0 for a number that no refusal has. What does not fit is dropped. */
+size_t zundrafl_sentence(uint64_t number, uint8_t *out, size_t bytes);
+
 /* what an opened table keeps beside its file: the counts, and where the names of each kind and the marks begin */
 typedef struct {
     size_t objects, attributes, object_names, attribute_names, marks;
@@ -64,7 +104,7 @@ typedef struct {
  */
 
 /* Opens a session with the first `used` rows: an empty list, the closure of the empty set. Writes *session. 1 to 6. */
-void zundrafl_open(zundrafl_session *session, size_t n, size_t used, const uint64_t *rows, size_t row_words, const uint64_t *list, size_t list_words,
+void zundrafl_open_session(zundrafl_session *session, size_t n, size_t used, const uint64_t *rows, size_t row_words, const uint64_t *list, size_t list_words,
                    const uint64_t *background, size_t background_words, zundrafl_answer *answer);
 
 /* FINISHED, ASKED (changes nothing, may be fetched again) or MOVED (writes *session). 1 to 7. */
@@ -113,14 +153,15 @@ void zundrafl_open_and_replay(zundrafl_session *session, size_t n, size_t used, 
 void zundrafl_open_table(zundrafl_layout *layout, const uint8_t *file, size_t bytes, zundrafl_answer *answer);
 
 /* The same for a table that has to be complete. 21 to 28; 29 a mark is unknown. */
-void zundrafl_open_complete(zundrafl_layout *layout, const uint8_t *file, size_t bytes, zundrafl_answer *answer);
+void zundrafl_open_complete_table(zundrafl_layout *layout, const uint8_t *file, size_t bytes, zundrafl_answer *answer);
 
 /* Writes the rows of an opened table, its file and its layout, into lent words; words past the rows are kept. 2 the number of words is odd
  * or above 1,024; 21 to 28; 3 for a layout that is not the one that reading the file finds, and for too few words. */
 void zundrafl_read_marks(const zundrafl_layout *layout, const uint8_t *file, size_t bytes, uint64_t *rows, size_t row_words, zundrafl_answer *answer);
 
 /* Where the name of a row or an attribute stands in the file: TAKEN with its offset and its number of bytes, 1 to 80. 3 for a number
- * past the last, and for a layout that is not the one that reading the file finds. */
+ * past the last, and for a layout that is not the one that reading the file finds. Every lookup reads the whole file again: fetch the
+ * names once. */
 void zundrafl_object_name(const zundrafl_layout *layout, const uint8_t *file, size_t bytes, size_t number, zundrafl_answer *answer);
 void zundrafl_attribute_name(const zundrafl_layout *layout, const uint8_t *file, size_t bytes, size_t number, zundrafl_answer *answer);
 

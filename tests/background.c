@@ -59,7 +59,7 @@ int main(void)
             }
     background[words++] = SET(A);
     background[words++] = SET(R_WXYZ);
-    zundrafl_open(&session, ATTRIBUTES, 0, rows, 2 * OBJECTS, list, 2 * ZUNDRAFL_MOST_RULES, background, words, &answer);
+    zundrafl_open_session(&session, ATTRIBUTES, 0, rows, 2 * OBJECTS, list, 2 * ZUNDRAFL_MOST_RULES, background, words, &answer);
     while (answer.code < 100 ? 0 : answer.code != ZUNDRAFL_FINISHED) {
         zundrafl_step(&session, rows, 2 * OBJECTS, list, 2 * ZUNDRAFL_MOST_RULES, background, words, &answer);
         if (answer.code != ZUNDRAFL_ASKED)

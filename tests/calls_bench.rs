@@ -2,6 +2,7 @@
 //!
 //! `calls_bench [SEED]` prints the median nanoseconds of a call and the ratio of library to model.
 
+#[path = "../include/zundrafl.rs"]
 mod library;
 #[path = "model/machine.rs"]
 mod machine;
@@ -12,7 +13,9 @@ mod sets;
 use std::hint::black_box;
 use std::time::{Duration, Instant};
 
-use library::*;
+use library::{
+    zundrafl_accept, zundrafl_follows, zundrafl_open_session, zundrafl_refuted, zundrafl_reject, zundrafl_replay, zundrafl_step,
+};
 use machine::{ACCEPTED, ASKED, Answer, FOLLOWS, MOVED, Record, UNREFUTED};
 use random::Random;
 use sets::Pair;
@@ -70,13 +73,13 @@ fn by_library(state: &mut State, call: Call) -> Answer {
     let State { record, rows, list, background } = state;
     let mut answer = Answer::new(0, 0, 0);
     let (n, used) = (record.n, record.rows);
-    let (s, a): (*mut Record, *mut Answer) = (record, &mut answer);
+    let (s, a) = ((&raw mut *record).cast(), (&raw mut answer).cast());
     let ((r, r_len), (l, l_len)) = ((rows.as_mut_ptr(), rows.len()), (list.as_mut_ptr(), list.len()));
     let (b, b_len) = (background.as_ptr(), background.len());
     // SAFETY: each pointer leads to as many elements as its length says, and all of them outlive the call.
     unsafe {
         match call {
-            Call::Open => zundrafl_open(s, n, used, r, r_len, l, l_len, b, b_len, a),
+            Call::Open => zundrafl_open_session(s, n, used, r, r_len, l, l_len, b, b_len, a),
             Call::Step => zundrafl_step(s, r, r_len, l, l_len, b, b_len, a),
             Call::Yes => zundrafl_accept(s, r, r_len, l, l_len, b, b_len, a),
             Call::No((yes, no)) => zundrafl_reject(s, r, r_len, l, l_len, b, b_len, yes, no, a),

@@ -33,7 +33,7 @@ int main(void)
     zundrafl_session session = {0, 0, 0, 0};
     zundrafl_layout layout = {0, 0, 0, 0, 0};
     zundrafl_answer answer;
-    zundrafl_open(&session, 2, 0, rows, 4, list, 4, background, 0, &answer);
+    zundrafl_open_session(&session, 2, 0, rows, 4, list, 4, background, 0, &answer);
     expect("open", &answer, ZUNDRAFL_TAKEN);
     zundrafl_session *asked = locked(&session, sizeof session);
     zundrafl_session finished = {2, 0, 0, 3};
@@ -60,7 +60,7 @@ int main(void)
     expect("a yes without a place", &answer, 12);
     zundrafl_reject(asked, rows, 4, list, 4, background, 0, 4, 1, &answer);
     expect("a refused no", &answer, 9);
-    zundrafl_open(asked, 65, 0, rows, 4, list, 4, background, 0, &answer);
+    zundrafl_open_session(asked, 65, 0, rows, 4, list, 4, background, 0, &answer);
     expect("a refused opening", &answer, 1);
     zundrafl_replay(asked, rows, 4, list, 4, background, 0, background, 2, list, 0, &answer);
     expect("an empty log", &answer, ZUNDRAFL_TAKEN);

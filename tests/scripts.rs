@@ -3,6 +3,7 @@
 //! `scripts [SEED] [COUNT]` plays COUNT scripts; the script number i has the seed SEED + i, so that `scripts SEED 1` plays a
 //! failing one again. A single script is printed call by call, each before it is made.
 
+#[path = "../include/zundrafl.rs"]
 mod library;
 #[path = "model/machine.rs"]
 mod machine;

@@ -2,6 +2,9 @@
 
 use crate::Tally;
 use crate::fenced::Fenced;
+use crate::library::{
+    zundrafl_attribute_name, zundrafl_object_name, zundrafl_open_complete_table, zundrafl_open_table, zundrafl_read_marks,
+};
 use crate::machine::{Answer, MAX_PROPERTIES, MAX_ROW_WORDS};
 use crate::opened::{self, Layout};
 use crate::random::Random;
@@ -22,31 +25,6 @@ const FENCE_BYTE: u8 = 0xfe;
 const FENCE_ANSWER: Answer = Answer { code: FENCE_WORD, first: FENCE_WORD, second: FENCE_WORD };
 const FENCE_LAYOUT: Layout =
     Layout { objects: 0xfe4c, attributes: 0xfe4c, object_names: 0xfe4c, attribute_names: 0xfe4c, marks: 0xfe4c };
-
-unsafe extern "C" {
-    fn zundrafl_open_table(layout: *mut Layout, file: *const u8, file_len: usize, answer: *mut Answer);
-
-    fn zundrafl_open_complete(layout: *mut Layout, file: *const u8, file_len: usize, answer: *mut Answer);
-
-    fn zundrafl_read_marks(
-        layout: *const Layout,
-        file: *const u8,
-        file_len: usize,
-        rows: *mut u64,
-        rows_len: usize,
-        answer: *mut Answer,
-    );
-
-    fn zundrafl_object_name(layout: *const Layout, file: *const u8, file_len: usize, number: usize, answer: *mut Answer);
-
-    fn zundrafl_attribute_name(
-        layout: *const Layout,
-        file: *const u8,
-        file_len: usize,
-        number: usize,
-        answer: *mut Answer,
-    );
-}
 
 #[derive(Clone, Copy)]
 enum Call {
@@ -111,13 +89,13 @@ fn by_library(state: &State, call: Call) -> Outcome {
     let mut file = Fenced::new(&state.file, FENCE_BYTE);
     let mut rows = Fenced::new(&state.rows, FENCE_WORD);
 
-    let ((t, _), (a, _)) = (layout.lend(), answer.lend());
+    let (t, a) = (layout.lend().0.cast(), answer.lend().0.cast());
     let ((f, f_len), (r, r_len)) = (file.lend(), rows.lend());
     // SAFETY: each pointer leads to as many elements as its length says, and all of them outlive the call.
     unsafe {
         match call {
             Call::OpenTable => zundrafl_open_table(t, f, f_len, a),
-            Call::OpenComplete => zundrafl_open_complete(t, f, f_len, a),
+            Call::OpenComplete => zundrafl_open_complete_table(t, f, f_len, a),
             Call::ReadMarks => zundrafl_read_marks(t, f, f_len, r, r_len, a),
             Call::ObjectName(number) => zundrafl_object_name(t, f, f_len, number, a),
             Call::AttributeName(number) => zundrafl_attribute_name(t, f, f_len, number, a),

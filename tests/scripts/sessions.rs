@@ -2,7 +2,10 @@
 
 use crate::Tally;
 use crate::fenced::Fenced;
-use crate::library::*;
+use crate::library::{
+    zundrafl_accept, zundrafl_follows, zundrafl_open_and_replay, zundrafl_open_session, zundrafl_refuted, zundrafl_reject,
+    zundrafl_replay, zundrafl_step,
+};
 use crate::machine::{self, ASKED, Answer, CALL_WORDS, FINISHED, MAX_ROW_WORDS, MAX_RULE_WORDS, Record};
 use crate::random::Random;
 use crate::sets::{self, Pair};
@@ -140,13 +143,13 @@ fn by_library(state: &State, call: &Call) -> Outcome {
     let (mut rows, mut list, mut background) = (words(&state.rows), words(&state.list), words(&state.background));
     let (mut calls, mut answers) = (words(call.log().0), words(call.log().1));
 
-    let ((s, _), (a, _)) = (session.lend(), answer.lend());
+    let (s, a) = (session.lend().0.cast(), answer.lend().0.cast());
     let ((r, r_len), (l, l_len), (b, b_len)) = (rows.lend(), list.lend(), background.lend());
     let ((c, c_len), (w, w_len)) = (calls.lend(), answers.lend());
     // SAFETY: each pointer leads to as many elements as its length says, and all of them outlive the call.
     unsafe {
         match *call {
-            Call::Open { n, used } => zundrafl_open(s, n, used, r, r_len, l, l_len, b, b_len, a),
+            Call::Open { n, used } => zundrafl_open_session(s, n, used, r, r_len, l, l_len, b, b_len, a),
             Call::Step => zundrafl_step(s, r, r_len, l, l_len, b, b_len, a),
             Call::Yes => zundrafl_accept(s, r, r_len, l, l_len, b, b_len, a),
             Call::No((yes, no)) => zundrafl_reject(s, r, r_len, l, l_len, b, b_len, yes, no, a),

@@ -6,7 +6,10 @@ use mathlib.Core.List.{List}
 use Prim.Native.Nat.{ℕ}
 use denote.Triple.Both.{Both}
 use denote.Ref.{RefT, now}
+use lib.Dec.{eqb}
 use Rattle.session.specs.declared.Session.{Session}
+use Rattle.session.specs.Refusals.{refusal}
+use Rattle.implication.specs.Closure.{implication}
 use Rattle.machine.specs.Machine.{Call, Answer, finished, moved, asked, taken, followed, refuted, unrefuted, refused, Opening, opened, rejected}
 use Rattle.machine.specs.Calls.{stateOf, Words, Record, Made, openingFrom}
 use Rattle.coded_calls.specs.declared.Answer.{Answer as Coded}
@@ -25,6 +28,29 @@ codeOf (followed false) = coded 104 0 0
 codeOf (refuted p) = coded 105 p 0
 codeOf unrefuted = coded 106 0 0
 codeOf (refused r) = coded (r .number) (r .place) 0
+
+-- the answer that three words say
+unfoldable pub answerIn : Coded → Answer
+answerIn x =
+    elim (eqb (x .code) 100) [
+      | true ↦ finished
+      | false ↦ elim (eqb (x .code) 101) [
+        | true ↦ moved
+        | false ↦ elim (eqb (x .code) 102) [
+          | true ↦ asked (implication (x .first) (x .second))
+          | false ↦ elim (eqb (x .code) 103) [
+            | true ↦ taken
+            | false ↦ elim (eqb (x .code) 104) [
+              | true ↦ followed (eqb (x .first) 1)
+              | false ↦ elim (eqb (x .code) 105) [
+                | true ↦ refuted (x .first)
+                | false ↦ elim (eqb (x .code) 106) [ true ↦ unrefuted | false ↦ refused (refusal (x .code) (x .first)) ]
+              ]
+            ]
+          ]
+        ]
+      ]
+    ]
 
 -- an opening is taken, or refused
 abbrev pub codeOfOpening : Opening → Coded

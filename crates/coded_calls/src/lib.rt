@@ -4,7 +4,8 @@ ghost use Rattle.implication.specs.Closure.{implication};
 ghost use Rattle.context.specs.Objects.{object};
 ghost use Rattle.machine.specs.Machine.{step as stepping, accept as accepting, reject as rejecting, follow, refute, refused};
 ghost use Rattle.machine.specs.Calls.{Made, Turned};
-ghost use Rattle.session_calls.specs.Answers.{stepAnswer, replyAnswer, followingAnswer, refutingAnswer};
+ghost use Rattle.session_steps.specs.Answers.{stepAnswer, followingAnswer, refutingAnswer};
+ghost use Rattle.session_replies.specs.Answers.{replyAnswer};
 ghost use Rattle.coded_calls.specs.Codes.{coded, codeOf, OpensCoded};
 
 // An answer in three words; a refusal has its own number as its code, and its place as the first value.
@@ -62,45 +63,45 @@ pub fn answer_of_refusal(refusal: session::Refusal) -> Answer
     in_words(refusal.number, refusal.place as u64, 0)
 }
 
-fn answer_of_step(answer: session_calls::Step) -> Answer
+fn answer_of_step(answer: session_steps::Step) -> Answer
     ensures { λ r. ⌜ r ≡ codeOf (stepAnswer answer) ⌝ }
 {
     match answer {
-        session_calls::Step::Finished => in_words(Answer::FINISHED, 0, 0),
-        session_calls::Step::Moved => in_words(Answer::MOVED, 0, 0),
-        session_calls::Step::Asked(question) => {
+        session_steps::Step::Finished => in_words(Answer::FINISHED, 0, 0),
+        session_steps::Step::Moved => in_words(Answer::MOVED, 0, 0),
+        session_steps::Step::Asked(question) => {
             in_words(Answer::ASKED, question.premise, question.conclusion)
         }
-        session_calls::Step::Refused(refusal) => answer_of_refusal(refusal),
+        session_steps::Step::Refused(refusal) => answer_of_refusal(refusal),
     }
 }
 
-fn answer_of_reply(answer: session_calls::Reply) -> Answer
+fn answer_of_reply(answer: session_replies::Reply) -> Answer
     ensures { λ r. ⌜ r ≡ codeOf (replyAnswer answer) ⌝ }
 {
     match answer {
-        session_calls::Reply::Taken => in_words(Answer::TAKEN, 0, 0),
-        session_calls::Reply::Refused(refusal) => answer_of_refusal(refusal),
+        session_replies::Reply::Taken => in_words(Answer::TAKEN, 0, 0),
+        session_replies::Reply::Refused(refusal) => answer_of_refusal(refusal),
     }
 }
 
-fn answer_of_following(answer: session_calls::Following) -> Answer
+fn answer_of_following(answer: session_steps::Following) -> Answer
     ensures { λ r. ⌜ r ≡ codeOf (followingAnswer answer) ⌝ }
 {
     match answer {
-        session_calls::Following::Follows => in_words(Answer::FOLLOWS, 1, 0),
-        session_calls::Following::Lacking => in_words(Answer::FOLLOWS, 0, 0),
-        session_calls::Following::Refused(refusal) => answer_of_refusal(refusal),
+        session_steps::Following::Follows => in_words(Answer::FOLLOWS, 1, 0),
+        session_steps::Following::Lacking => in_words(Answer::FOLLOWS, 0, 0),
+        session_steps::Following::Refused(refusal) => answer_of_refusal(refusal),
     }
 }
 
-fn answer_of_refuting(answer: session_calls::Refuting) -> Answer
+fn answer_of_refuting(answer: session_steps::Refuting) -> Answer
     ensures { λ r. ⌜ r ≡ codeOf (refutingAnswer answer) ⌝ }
 {
     match answer {
-        session_calls::Refuting::By(row) => in_words(Answer::REFUTED, row as u64, 0),
-        session_calls::Refuting::Nothing => in_words(Answer::UNREFUTED, 0, 0),
-        session_calls::Refuting::Refused(refusal) => answer_of_refusal(refusal),
+        session_steps::Refuting::By(row) => in_words(Answer::REFUTED, row as u64, 0),
+        session_steps::Refuting::Nothing => in_words(Answer::UNREFUTED, 0, 0),
+        session_steps::Refuting::Refused(refusal) => answer_of_refusal(refusal),
     }
 }
 
@@ -115,14 +116,14 @@ pub fn open(
 ) -> Turn
     ensures { λ r. ⌜ OpensCoded n used session rows list background (r .answer) (r .session) (r .changed) ⌝ }
 {
-    let opened = session_calls::open(n, used, rows, list, background);
+    let opened = session_opening::open(n, used, rows, list, background);
     match opened {
-        session_calls::Opened::Open(made) => Turn {
+        session_opening::Opened::Open(made) => Turn {
             answer: in_words(Answer::TAKEN, 0, 0),
             session: made,
             changed: true,
         },
-        session_calls::Opened::Refused(refusal) => Turn {
+        session_opening::Opened::Refused(refusal) => Turn {
             answer: answer_of_refusal(refusal),
             session,
             changed: false,
@@ -134,7 +135,7 @@ pub fn open(
 pub fn step(session: session::Session, rows: &[u64], list: &[u64], background: &[u64]) -> Turn
     ensures { λ r. ⌜ Turned codeOf stepping session rows list background (r .answer) (r .session) (r .changed) ⌝ }
 {
-    let made = session_calls::make_step(session, rows, list, background);
+    let made = session_steps::make_step(session, rows, list, background);
     let answer = made.answer;
     let after = made.session;
     Turn {
@@ -148,7 +149,7 @@ pub fn step(session: session::Session, rows: &[u64], list: &[u64], background: &
 pub fn accept(session: session::Session, rows: &[u64], list: &mut [u64], background: &[u64]) -> Turn
     ensures { λ r. ⌜ Turned codeOf accepting session rows list background (r .answer) (r .session) (r .changed) ⌝ }
 {
-    let made = session_calls::accept(session, rows, list, background);
+    let made = session_replies::accept(session, rows, list, background);
     let answer = made.answer;
     let after = made.session;
     Turn {
@@ -169,7 +170,7 @@ pub fn reject(
 ) -> Turn
     ensures { λ r. ⌜ Turned codeOf (rejecting (object yes no)) session rows list background (r .answer) (r .session) (r .changed) ⌝ }
 {
-    let made = session_calls::reject(session, rows, list, background, yes, no);
+    let made = session_replies::reject(session, rows, list, background, yes, no);
     let answer = made.answer;
     let after = made.session;
     Turn {
@@ -190,7 +191,7 @@ pub fn follows(
 ) -> Answer
     ensures { λ r. ⌜ Made codeOf (follow (implication premise conclusion)) session rows list background r session ⌝ }
 {
-    let answer = session_calls::follows(session, rows, list, background, premise, conclusion);
+    let answer = session_steps::follows(session, rows, list, background, premise, conclusion);
     answer_of_following(answer)
 }
 
@@ -205,6 +206,6 @@ pub fn refuted(
 ) -> Answer
     ensures { λ r. ⌜ Made codeOf (refute (implication premise conclusion)) session rows list background r session ⌝ }
 {
-    let answer = session_calls::refuted(session, rows, list, background, premise, conclusion);
+    let answer = session_steps::refuted(session, rows, list, background, premise, conclusion);
     answer_of_refuting(answer)
 }

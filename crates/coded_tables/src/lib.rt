@@ -1,7 +1,7 @@
 // The table reader with its answers in three words: the layout that the caller keeps goes in, and comes back where it may have changed.
 ghost use mathlib.Core.Path.{_≡_};
 ghost use Rattle.table_layout.specs.Layout.{openedOf};
-ghost use Rattle.table_marks.specs.Complete.{openedComplete};
+ghost use Rattle.complete_tables.specs.Complete.{openedComplete};
 ghost use Rattle.table_names.specs.Names.{objectSpan, attributeSpan};
 ghost use Rattle.coded_tables.specs.Tables.{FindsTable, ReadsMarks, codeOfSpan};
 
@@ -41,7 +41,7 @@ pub fn open(layout: table_layout::Layout, file: &[u8]) -> Found
 pub fn open_complete(layout: table_layout::Layout, file: &[u8]) -> Found
     ensures { λ r. ⌜ FindsTable (openedComplete (now (file .entry))) layout (r .answer) (r .layout) (r .changed) ⌝ }
 {
-    let opened = table_marks::open_complete(file);
+    let opened = complete_tables::open_complete(file);
     found_as(opened, layout)
 }
 

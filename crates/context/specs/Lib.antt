@@ -1,4 +1,3 @@
 pub mod Places
 pub mod Objects
-pub mod Reach
 pub mod Tables

@@ -10,6 +10,7 @@ use Rattle.implication.specs.Pairs.{pairs}
 use Rattle.implication.specs.Closure.{closure}
 use Rattle.context.specs.Places.{lowest}
 pub mod Laws
+pub mod Cases
 
 -- an object (01: a row): the attributes marked yes, then those marked no; the rest are unknown
 pub record Object : Type 0 where

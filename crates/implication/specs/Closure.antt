@@ -32,10 +32,6 @@ inForce background list n = allImplications background ++ implicationsOf n list
 abbrev pub inForceWith : List ℕ → List ℕ → ℕ → ℕ → ℕ → List (Implication ℕ)
 inForceWith background list n p c = inForce background list n ++ (implication p c ∷ [])
 
--- the first b implications of one slice, then the first n of another
-abbrev pub firstOfBoth : ℕ → List ℕ → ℕ → List ℕ → List (Implication ℕ)
-firstOfBoth b background n list = implicationsOf b background ++ implicationsOf n list
-
 -- s with the conclusion, where it contains the premise
 unfoldable pub fire : Implication ℕ → ℕ → ℕ
 fire r s = elim (inside (r .premise) s) [ true ↦ bitOr s (r .conclusion) | false ↦ s ]

@@ -1,4 +1,3 @@
 pub mod Pairs
 pub mod Closure
-pub mod Next
 pub mod Until

@@ -72,7 +72,7 @@ pub fn advance(
             last: true,
         };
     }
-    let reach = context::reach_of(n, rows, interview.rows, current);
+    let reach = reach::reach_of(n, rows, interview.rows, current);
     if reach != current {
         let conclusion = attribute_set::difference(reach, current);
         return reply(table, objects, rows, list, interview, conclusion, out, at);
@@ -82,7 +82,7 @@ pub fn advance(
             n,
             rows: interview.rows,
             rules: interview.rules,
-            current: implication::next_of(&table[..0], list, interview.rules, n, current),
+            current: next_set::next_of(&table[..0], list, interview.rules, n, current),
             changes: interview_replies::count_change(interview.changes),
         },
         at,

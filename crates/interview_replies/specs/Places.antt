@@ -9,7 +9,7 @@ use Rattle.context.specs.Tables.{Table}
 use Rattle.machine.specs.Checks.{Lent, mostObjects, mostImplications}
 use Rattle.machine.specs.Calls.{Words}
 use Rattle.table_layout.specs.Layout.{openedOf}
-use Rattle.table_marks.specs.Complete.{completeOf}
+use Rattle.complete_tables.specs.Complete.{completeOf}
 use Rattle.table_layout.specs.declared.Layout.{Layout}
 use Rattle.table_layout.specs.declared.Opened.{Opened}
 use Rattle.table_layout.specs.declared.Opened.the-variants.{Found}

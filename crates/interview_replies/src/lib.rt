@@ -99,7 +99,7 @@ pub fn say_yes(
             n,
             rows: interview.rows,
             rules: rules + 1,
-            current: implication::next_of(&rows[..0], list, rules + 1, n, premise),
+            current: next_set::next_of(&rows[..0], list, rules + 1, n, premise),
             changes: count_change(interview.changes),
         },
         at: end,

@@ -13,12 +13,12 @@ use lib.ListN.{length, take, drop, replicate, length-append, length-drop, length
 use lib.Seq.{drop-length, drop-append-le, take-append-le}
 use lib.Dec.{eqb}
 use borrow.Author.Tests.{lt-ltb, le-ltb, eqb-true, ne-eqb}
-use Rattle.table_layout.specs.declared.Kind.{Kind}
-use Rattle.table_layout.specs.declared.Kind.the-variants.{Letter, Title, Objects, Attributes, Name, Marks}
+use Rattle.table_kinds.specs.declared.Kind.{Kind}
+use Rattle.table_kinds.specs.declared.Kind.the-variants.{Letter, Title, Objects, Attributes, Name, Marks}
 use Rattle.table_lines.specs.declared.Line.{Line}
 use Rattle.session.specs.declared.Refusal.{Refusal}
-use Rattle.table_layout.specs.declared.Walk.{Walk}
-use Rattle.table_layout.specs.declared.Walk.the-variants.{Failed, At}
+use Rattle.table_walk.specs.declared.Walk.{Walk}
+use Rattle.table_walk.specs.declared.Walk.the-variants.{Failed, At}
 use Rattle.table_layout.specs.declared.Layout.{Layout}
 use Rattle.table_layout.specs.declared.Opened.{Opened}
 use Rattle.table_layout.specs.declared.Opened.the-variants.{Found, Refused}
@@ -26,9 +26,12 @@ use Rattle.session.specs.Refusals.{refusal}
 use Rattle.table_lines.specs.Lines.{lineFeed, carriageReturn, feeds, longer, lineOf, bytesAt, after}
 use Rattle.table_lines.specs.Lines.Laws.{line-none, line-feed, line-return, line-on, step-inside, size-inside}
 use Rattle.table_bytes.specs.Bytes.{countOf}
-use Rattle.table_layout.specs.Layout.{mostBytes, fault, lineFault, walk, rest, attributesAt, objectCount, attributeCount, header, toAttributeNames, toMarks, toEnd, placeOf, Passes, layoutOf, thenRest, openedFrom, openedOf}
-use Rattle.table_layout.specs.Layout.Laws.{fault-there, fault-missing, rest-end, rest-enough}
-use Rattle.table_layout.specs.Layout.Passed.{attributes-fine, line-there, passes-cons, passes-append}
+use Rattle.table_layout.specs.Layout.{mostBytes, attributesAt, objectCount, attributeCount, header, toAttributeNames, toMarks, toEnd, layoutOf, openedFrom, openedOf}
+use Rattle.table_kinds.specs.Kinds.{fault}
+use Rattle.table_walk.specs.Walk.{lineFault, walk, rest, placeOf, Passes, thenRest}
+use Rattle.table_walk.specs.Walk.Laws.{fault-there, fault-missing, rest-end, rest-enough}
+use Rattle.table_kinds.specs.Kinds.Laws.{attributes-fine}
+use Rattle.table_walk.specs.Walk.Passed.{line-there, passes-cons, passes-append}
 
 -- ---- what alike means
 

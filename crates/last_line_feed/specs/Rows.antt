@@ -7,12 +7,14 @@ use Prim.Native.Nat.{ℕ, zero, suc, _<_}
 use native.Mathlib.Omega.{arith}
 use lib.ListN.{length, replicate}
 use Rattle.table_lines.specs.Lines.{after}
-use Rattle.table_layout.specs.Layout.{mostBytes, openedOf, walk, Passes}
-use Rattle.table_layout.specs.Layout.Passed.{line-there, passes-cons, table-marks}
+use Rattle.table_layout.specs.Layout.{mostBytes, openedOf}
+use Rattle.table_walk.specs.Walk.{walk, Passes}
+use Rattle.table_walk.specs.Walk.Passed.{line-there, passes-cons}
+use Rattle.table_layout.specs.Layout.Passed.{table-marks}
 use Rattle.last_line_feed.specs.Layouts.{SameAt, Alike, bytes-same, after-same, last-line-feed}
-use Rattle.table_marks.specs.Marks.{rowOf, rowsFrom}
+use Rattle.table_rows.specs.Rows.{rowOf, rowsFrom}
 use Rattle.table_layout.specs.declared.Layout.{Layout}
-use Rattle.table_layout.specs.declared.Kind.the-variants.{Marks}
+use Rattle.table_kinds.specs.declared.Kind.the-variants.{Marks}
 use Rattle.table_layout.specs.declared.Opened.the-variants.{Found}
 
 module _ (file : List ℕ) (b : ℕ) (no-feed : b ≡ 10 → ⊥) (no-return : b ≡ 13 → ⊥) where

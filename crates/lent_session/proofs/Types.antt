@@ -1,18 +1,18 @@
 -- The record that is lent, the enums that are answers, and what the calls by value give back, as the walks take them.
 use Rattle.session.proofs.Session as T
 use Rattle.session.proofs.Session.Laws as T′
-use Rattle.session_calls.proofs.Step as Step
-use Rattle.session_calls.proofs.Step.Laws as Step′
-use Rattle.session_calls.proofs.Reply as Reply
-use Rattle.session_calls.proofs.Reply.Laws as Reply′
-use Rattle.session_calls.proofs.Following as Following
-use Rattle.session_calls.proofs.Following.Laws as Following′
-use Rattle.session_calls.proofs.Refuting as Refuting
-use Rattle.session_calls.proofs.Refuting.Laws as Refuting′
-use Rattle.session_calls.proofs.Stepped as Stepped
-use Rattle.session_calls.proofs.Replied as Replied
-use Rattle.session_calls.specs.declared.Stepped.{Stepped as SteppedD}
-use Rattle.session_calls.specs.declared.Replied.{Replied as RepliedD}
+use Rattle.session_steps.proofs.Step as Step
+use Rattle.session_steps.proofs.Step.Laws as Step′
+use Rattle.session_replies.proofs.Reply as Reply
+use Rattle.session_replies.proofs.Reply.Laws as Reply′
+use Rattle.session_steps.proofs.Following as Following
+use Rattle.session_steps.proofs.Following.Laws as Following′
+use Rattle.session_steps.proofs.Refuting as Refuting
+use Rattle.session_steps.proofs.Refuting.Laws as Refuting′
+use Rattle.session_steps.proofs.Stepped as Stepped
+use Rattle.session_replies.proofs.Replied as Replied
+use Rattle.session_steps.specs.declared.Stepped.{Stepped as SteppedD}
+use Rattle.session_replies.specs.declared.Replied.{Replied as RepliedD}
 use Rattle.walks.specs.Lent.{Lendable, Enumerated, TurnedEnum}
 
 abbrev pub session : Lendable

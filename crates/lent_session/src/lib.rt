@@ -4,7 +4,8 @@ ghost use Rattle.implication.specs.Closure.{implication};
 ghost use Rattle.context.specs.Objects.{object};
 ghost use Rattle.machine.specs.Machine.{step as stepping, accept as accepting, reject as rejecting, follow, refute};
 ghost use Rattle.machine.specs.Calls.{PerformsOn};
-ghost use Rattle.session_calls.specs.Answers.{stepAnswer, replyAnswer, followingAnswer, refutingAnswer};
+ghost use Rattle.session_steps.specs.Answers.{stepAnswer, followingAnswer, refutingAnswer};
+ghost use Rattle.session_replies.specs.Answers.{replyAnswer};
 
 // Finished at M; the standing question; or a move to the next closed set.
 pub fn step(
@@ -12,11 +13,11 @@ pub fn step(
     rows: &[u64],
     list: &[u64],
     background: &[u64],
-) -> session_calls::Step
+) -> session_steps::Step
     ensures { λ r. ⌜ PerformsOn stepping session rows list background (stepAnswer r) ⌝ }
 {
     let held = *session;
-    let turn = session_calls::make_step(held, rows, list, background);
+    let turn = session_steps::make_step(held, rows, list, background);
     if turn.changed {
         *session = turn.session;
     }
@@ -29,11 +30,11 @@ pub fn accept(
     rows: &[u64],
     list: &mut [u64],
     background: &[u64],
-) -> session_calls::Reply
+) -> session_replies::Reply
     ensures { λ r. ⌜ PerformsOn accepting session rows list background (replyAnswer r) ⌝ }
 {
     let held = *session;
-    let turn = session_calls::accept(held, rows, list, background);
+    let turn = session_replies::accept(held, rows, list, background);
     if turn.changed {
         *session = turn.session;
     }
@@ -48,11 +49,11 @@ pub fn reject(
     background: &[u64],
     yes: u64,
     no: u64,
-) -> session_calls::Reply
+) -> session_replies::Reply
     ensures { λ r. ⌜ PerformsOn (rejecting (object yes no)) session rows list background (replyAnswer r) ⌝ }
 {
     let held = *session;
-    let turn = session_calls::reject(held, rows, list, background, yes, no);
+    let turn = session_replies::reject(held, rows, list, background, yes, no);
     if turn.changed {
         *session = turn.session;
     }
@@ -67,10 +68,10 @@ pub fn follows(
     background: &[u64],
     premise: u64,
     conclusion: u64,
-) -> session_calls::Following
+) -> session_steps::Following
     ensures { λ r. ⌜ PerformsOn (follow (implication premise conclusion)) session rows list background (followingAnswer r) ⌝ }
 {
-    session_calls::follows(*session, rows, list, background, premise, conclusion)
+    session_steps::follows(*session, rows, list, background, premise, conclusion)
 }
 
 // Whether a row refutes an implication, with the first such row.
@@ -81,8 +82,8 @@ pub fn refuted(
     background: &[u64],
     premise: u64,
     conclusion: u64,
-) -> session_calls::Refuting
+) -> session_steps::Refuting
     ensures { λ r. ⌜ PerformsOn (refute (implication premise conclusion)) session rows list background (refutingAnswer r) ⌝ }
 {
-    session_calls::refuted(*session, rows, list, background, premise, conclusion)
+    session_steps::refuted(*session, rows, list, background, premise, conclusion)
 }

@@ -10,7 +10,7 @@ use lib.ListN.{length, set}
 use Rattle.session.specs.declared.Session.{Session}
 use Rattle.implication.specs.Closure.{implicationsOf, allImplications}
 use Rattle.context.specs.Objects.{objectsOf}
-use Rattle.machine.specs.Checks.{Lent, State, question}
+use Rattle.machine.specs.Checks.{State, question}
 use Rattle.machine.specs.Machine.{Call, step, accept, reject, follow, refute, Answer, finished, moved, asked, taken, followed, refuted, unrefuted, refused, perform, Opening, opening}
 pub mod Laws
 

@@ -13,7 +13,7 @@ use Rattle.attribute_set.specs.Sets.{inside, full, without}
 use Rattle.implication.specs.Closure.{implication, closure}
 use Rattle.context.specs.Places.{lowest, anywhere}
 use Rattle.context.specs.Objects.{Object, refutes, markedTwice, contradicts}
-use Rattle.context.specs.Reach.{reach}
+use Rattle.reach.specs.Reach.{reach}
 pub mod Laws
 
 -- the limits of a session: 64 attributes (01: properties), 512 objects (rows), 256 implications (rules)

@@ -1,15 +1,14 @@
--- Cases at the edges of document 01's limits and with places above 0, one table below the marked one. `Edges.Proof` proves the whole table by
--- computing the definitions.
+-- Cases at the edges of document 01's limits, for each refusal of a session, and with places above 0: one table below the marked
+-- one. `Edges.Proof` proves the whole table by computing the definitions.
 use mathlib.Core.Path.{_≡_}
 use mathlib.Core.List.{List, [], _∷_}
 use Prim.Native.Nat.{ℕ}
 use lib.ListN.{replicate}
-use Rattle.theory.specs.Implications.{Implication}
 use Rattle.implication.specs.Closure.{implication}
 use Rattle.context.specs.Objects.{Object, object}
 use Rattle.session.specs.Refusals.{refusal}
 use Rattle.machine.specs.Checks.{Lent, State}
-use Rattle.machine.specs.Machine.{step, accept, reject, asked, taken, refused, perform, rejected, opened, opening, openingState}
+use Rattle.machine.specs.Machine.{step, accept, reject, follow, asked, taken, refused, moveTo, afterYes, perform, rejected, opened, opening, openingState}
 pub mod Proof
 
 -- lent lengths: row words, list words, background words
@@ -49,17 +48,35 @@ pub record Edges : Type 0 where
   pub no-place-for-a-rule : perform (listed 256) accept .answer ≡ refused (refusal 12 0)
   pub last-place-for-a-rule : perform (listed 255) accept .answer ≡ taken
   pub too-many-rules : perform (listed 257) step .answer ≡ refused (refusal 3 0)
+  -- attribute 3 in a row, in a rule, in the current set, in a rule asked about
+  pub four-row : perform (over (lent 2 2 2) (object 0 8 ∷ [])) step .answer ≡ refused (refusal 4 0)
+  pub four-rule : opening 3 (lent 2 2 2) (implication 0 8 ∷ []) [] ≡ rejected (refusal 4 0)
+  pub four-current : perform (moveTo (over (lent 2 2 2) []) 9) step .answer ≡ refused (refusal 4 0)
+  pub four-asked : perform (over (lent 2 2 2) []) (follow (implication 0 8)) .answer ≡ refused (refusal 4 0)
   -- the third row marks attribute 1 both ways, and so does the fourth: 5 names the lowest
   pub five : perform (over (lent 8 2 2) (object 1 0 ∷ object 1 2 ∷ object 2 2 ∷ object 2 2 ∷ [])) step .answer ≡ refused (refusal 5 2)
   -- the second row has 0 and 1 and lacks 2, and so does the third: 6 names the lowest
   pub six : perform (over (lent 6 2 2) (object 1 0 ∷ object 3 4 ∷ object 3 4 ∷ [])) step .answer ≡ refused (refusal 6 1)
   -- the first row contradicts and the second marks an attribute both ways: 5 comes before 6
   pub five-before-six : perform (over (lent 4 2 2) (object 3 4 ∷ object 2 2 ∷ [])) step .answer ≡ refused (refusal 5 1)
+  -- {0, 1} is not its own closure under the background, nor {0} under a list with {0} → {1, 2}
+  pub seven : perform (moveTo (over (lent 2 2 2) []) 3) step .answer ≡ refused (refusal 7 0)
+  pub seven-list : perform (moveTo (afterYes (over (lent 2 2 2) [])) 1) step .answer ≡ refused (refusal 7 0)
+  -- no question stands at M, nor at a set that equals its reach
+  pub eight-yes : perform (moveTo (over (lent 2 2 2) []) 7) accept .answer ≡ refused (refusal 8 0)
+  pub eight-no : perform (over (lent 4 2 2) (object 1 6 ∷ [])) (reject (object 1 6)) .answer ≡ refused (refusal 8 0)
+  -- an offered row with attribute 3, and one that marks attribute 1 both ways
+  pub nine-outside : perform (over (lent 4 2 2) []) (reject (object 9 2)) .answer ≡ refused (refusal 9 0)
+  pub nine-twice : perform (over (lent 4 2 2) []) (reject (object 3 2)) .answer ≡ refused (refusal 9 0)
+  -- the question is {0} → {1, 2}: a row without 0, and a row that lacks neither 1 nor 2
+  pub ten-premise : perform (over (lent 4 2 2) []) (reject (object 0 2)) .answer ≡ refused (refusal 10 0)
+  pub ten-conclusion : perform (over (lent 4 2 2) []) (reject (object 1 0)) .answer ≡ refused (refusal 10 0)
   -- a yes to {0} → {1} contradicts the second row, which has 0 and lacks 2, and the third: 11 names the lowest
   pub eleven : perform (over (lent 6 2 2) (object 2 0 ∷ object 1 4 ∷ object 1 4 ∷ [])) accept .answer ≡ refused (refusal 11 1)
   -- 11 is tested before 12
   pub eleven-before-twelve : perform (over (lent 6 0 2) (object 2 0 ∷ object 1 4 ∷ object 1 4 ∷ [])) accept .answer ≡ refused (refusal 11 1)
   -- a no that contradicts has the place 0
   pub no-contradicts : perform (over (lent 4 2 2) (object 2 0 ∷ [])) (reject (object 3 4)) .answer ≡ refused (refusal 11 0)
-  -- a row that fits and finds no place
+  -- a row that fits finds the last place, or none
+  pub last-place-for-a-row : perform (over (lent 4 2 2) (object 2 0 ∷ [])) (reject (object 1 4)) .answer ≡ taken
   pub no-place-for-a-row : perform (over (lent 2 2 2) (object 2 0 ∷ [])) (reject (object 1 4)) .answer ≡ refused (refusal 12 0)

@@ -3,6 +3,7 @@ pub mod Machine
 pub mod Calls
 pub mod Marked
 pub mod Edges
+pub mod Traps
 pub mod Replies
 pub mod Facts
 pub mod Demand2

@@ -8,10 +8,10 @@ use lib.ListN.{length}
 use lib.Dec.{ltb}
 use Rattle.theory.specs.Implications.{Implication}
 use Rattle.implication.specs.Closure.{closure, follows}
-use Rattle.implication.specs.Next.{next}
+use Rattle.next_set.specs.Next.{next}
 use Rattle.context.specs.Objects.{Object, firstRefuting}
 use Rattle.session.specs.declared.Refusal.{Refusal}
-use Rattle.machine.specs.Checks.{Lent, State, Check, firstFailing, sessionChecks, yesChecks, noChecks, force, Standing, whole, tight, open-question, standing, question, withQuestion}
+use Rattle.machine.specs.Checks.{Lent, State, Check, firstFailing, sessionChecks, yesChecks, noChecks, force, whole, tight, open-question, standing, question, withQuestion}
 pub mod Laws
 
 -- the calls of a session, with any arguments
@@ -51,6 +51,10 @@ turn a s = record { answer = a; after = s }
 abbrev pub moveTo : State → ℕ → State
 moveTo s p = record { n = s .n; lent = s .lent; background = s .background; rows = s .rows; list = s .list; current = p }
 
+-- a move: the next set under the implications in force
+abbrev pub afterMove : State → State
+afterMove s = moveTo s (next (force s) (s .n) (s .current))
+
 -- a yes: the question in the list, and the next set under the implications then in force
 abbrev pub afterYes : State → State
 afterYes s =
@@ -67,7 +71,7 @@ unfoldable pub performStep : State → Turn
 performStep s =
     elim (standing s) [
       | whole ↦ turn finished s
-      | tight ↦ turn moved (moveTo s (next (force s) (s .n) (s .current)))
+      | tight ↦ turn moved (afterMove s)
       | open-question ↦ turn (asked (question s)) s
     ]
 

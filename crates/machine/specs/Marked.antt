@@ -5,9 +5,9 @@ use mathlib.Core.List.{[], _∷_}
 use Prim.Native.Nat.{_-_, _^_}
 use Rattle.attribute_set.specs.Sets.{full}
 use Rattle.implication.specs.Closure.{implication, closure}
-use Rattle.implication.specs.Next.{next}
+use Rattle.next_set.specs.Next.{next}
 use Rattle.context.specs.Objects.{object}
-use Rattle.context.specs.Reach.{reach}
+use Rattle.reach.specs.Reach.{reach}
 use Rattle.machine.specs.Checks.{Lent, State, reachOf}
 use Rattle.machine.specs.Machine.{step, accept, reject, finished, taken, refused, perform, opening, opened, openingState}
 pub mod Proof

@@ -1,4 +1,4 @@
--- Demand 3, whole, about the calls that run: for every n, background, rows in use and lent words that `session_calls::open` accepts,
+-- Demand 3, whole, about the calls that run: for every n, background, rows in use and lent words that `session_opening::open` accepts,
 -- and every list of calls that `replay` then makes through the public calls, with any arguments, refused ones included.
 -- Points 1 to 5 in the order of document 01; `Theorem` proves them from the contract of `replay` and the machine's theorems.
 use mathlib.Core.Path.{_≡_}
@@ -33,7 +33,7 @@ pub record Interview (n : ℕ) (background : List ℕ) : Type 0 where
   pub rows-after : List ℕ
   pub list-after : List ℕ
   pub answers-after : List ℕ
-  -- the opening accepted: what the contract of `session_calls::open` says where it answers Open
+  -- the opening accepted: what the contract of `session_opening::open` says where it answers Open
   pub opens : opened (stateOf start rows list background) ≡ openingFrom n used rows list background
   -- the calls were made: what the contract of `replay` says where it answers Replayed
   pub made : AllMade background calls start (logWords rows list answers) end (logWords rows-after list-after answers-after)
@@ -60,9 +60,10 @@ module _ {n : ℕ} {background : List ℕ} (i : Interview n background) where
   end-list = implicationsOf (i .end .rules) (i .list-after)
 
 pub record Demand3Whole {n : ℕ} {background : List ℕ} (i : Interview n background) : Type 0 where
-  -- 1. simulation: record and words hold the plain machine's state; the answers are the machine's, one after the other; every
+  -- 1. simulation: record and words hold the plain machine's state; n is the opening's; the answers are the machine's, one after the other; every
   -- word past those in use is as it was lent
   pub simulated : end-state i ≡ run (opening-state i) (script i)
+  pub same-n : i .end .n ≡ n
   pub answered : i .answers-after ≡ answersOf (opening-state i) (logOf (i .calls)) ++ drop (length (i .calls) / 3 * 3) (i .answers)
   pub rows-past : PastKept (i .start .rows) (i .end .rows) (i .rows) (i .rows-after)
   pub list-past : PastKept (i .start .rules) (i .end .rules) (i .list) (i .list-after)

@@ -15,10 +15,10 @@ pub fn open_and_replay(
 ) -> coded_calls::Turn
     ensures { λ r. ⌜ TakesUpTo n used session rows list background calls answers (r .answer) (r .session) (r .changed) ⌝ }
 {
-    let opened = session_calls::open(n, used, rows, list, background);
+    let opened = session_opening::open(n, used, rows, list, background);
     let start = match opened {
-        session_calls::Opened::Open(start) => start,
-        session_calls::Opened::Refused(refusal) => {
+        session_opening::Opened::Open(start) => start,
+        session_opening::Opened::Refused(refusal) => {
             return coded_calls::Turn {
                 answer: coded_calls::answer_of_refusal(refusal),
                 session,

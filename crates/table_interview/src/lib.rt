@@ -1,51 +1,23 @@
 // The interview of the complete table in a file (01: the program): beats until the last, each line written out when it is known.
-ghost use mathlib.Core.Path.{_≡_};
 ghost use mathlib.Core.List.{[]};
-ghost use Prim.Native.Nat.{_+_, _*_, _-_, _≤_};
+ghost use Prim.Native.Nat.{_*_, _≤_};
 ghost use lib.ListN.{length};
 ghost use Rattle.context.specs.Objects.{objectsOf};
 ghost use Rattle.machine.specs.Machine.{opening};
-ghost use Rattle.output_lines.specs.Lines.{refusalLine};
+ghost use Rattle.handed_output.specs.Handing.{Tells};
 ghost use Rattle.transcript.specs.Output.{interviewed, outputWith};
 ghost use Rattle.transcript.specs.Core.Along.{Along};
 ghost use Rattle.interview_replies.specs.Holding.{holding, held};
 ghost use Rattle.interview_replies.specs.Places.{lent, placesFor, Holds};
 ghost use Rattle.interview_beat.specs.Beat.{tabled};
 ghost use Rattle.interview_beat.specs.Running.{remaining};
-ghost use Rattle.table_interview.specs.Run.{mostCounted, HandsOver, Tells, Writes};
+ghost use Rattle.table_interview.specs.Run.{Writes};
 
 // The bytes of a buffer for a table file: one more than a file may have, so that a longer one is seen to be longer.
 pub const FILE_BYTES: usize = table_layout::Layout::BYTES + 1;
 
 // The bytes of a buffer that holds every output whole.
 pub const OUTPUT_BYTES: usize = 163840;
-
-// How many bytes were handed over to be written, and whether every write took all of them.
-pub struct Handed {
-    pub bytes: usize,
-    pub whole: bool,
-}
-
-// What an interview leaves: the offset behind its text in the buffer, and what was handed over.
-pub struct Told {
-    pub end: usize,
-    pub handed: Handed,
-}
-
-// Hands over what stands in the buffer between two offsets. A write that failed is the last.
-fn show(fd: i32, out: &[u8], from: usize, to: usize, handed: Handed) -> Handed
-    requires { ⌜ (from ≤ to) × (to ≤ length (now out)) ⌝ }
-    requires { ⌜ handed .bytes + (to - from) ≤ mostCounted ⌝ }
-    ensures { λ r. ⌜ HandsOver handed (to - from) r ⌝ }
-{
-    if !handed.whole {
-        return handed;
-    }
-    let part = &out[from..to];
-    let bytes = handed.bytes + part.len();
-    let whole = io::write_all(fd, part);
-    Handed { bytes, whole }
-}
 
 // Beats until the last. A line is handed over when it is known.
 fn run_beats(
@@ -56,36 +28,24 @@ fn run_beats(
     list: &mut [u64],
     out: &mut [u8],
     fd: i32,
-    before: Handed,
-) -> Told
+) -> handed_output::Told
     requires { ⌜ Along (objectsOf objects (now table)) (holding start (now rows) (now list)) (start .changes) ⌝ }
     requires { ⌜ objects * 2 ≤ length (now table) ⌝ }
-    requires { ⌜ before .bytes + length (now out) ≤ mostCounted ⌝ }
-    ensures { λ r. ⌜ Tells out before r (remaining (tabled objects table) (held start rows list) (start .changes)) ⌝ }
+    ensures { λ r. ⌜ Tells out r (remaining (tabled objects table) (held start rows list) (start .changes)) ⌝ }
 {
     let mut interview = start;
     let mut at = 0;
-    let mut handed = before;
+    let mut handed = handed_output::nothing_handed();
     loop {
         let beaten = interview_beat::advance(table, objects, rows, list, interview, out, at);
         let end = beaten.at;
-        handed = show(fd, out, at, end, handed);
+        handed = handed_output::hand_over(fd, out, at, end, handed);
         if beaten.last {
-            return Told { end, handed };
+            return handed_output::Told { end, handed };
         }
         at = end;
         interview = beaten.interview;
     }
-}
-
-// The refusal line, handed over.
-fn write_refusal(refusal: session::Refusal, out: &mut [u8], fd: i32, before: Handed) -> Told
-    requires { ⌜ before .bytes + length (now out) ≤ mostCounted ⌝ }
-    ensures { λ r. ⌜ Tells out before r (refusalLine refusal) ⌝ }
-{
-    let end = output_lines::put_refusal(out, 0, refusal.number, refusal.place as u64);
-    let handed = show(fd, out, 0, end, before);
-    Told { end, handed }
 }
 
 // The interview of a complete table whose rows are in words, from its opening on.
@@ -97,16 +57,14 @@ fn interview_table(
     list: &mut [u64],
     out: &mut [u8],
     fd: i32,
-    before: Handed,
-) -> Told
+) -> handed_output::Told
     requires { ⌜ Holds n objects (now table) ⌝ }
-    requires { ⌜ before .bytes + length (now out) ≤ mostCounted ⌝ }
-    ensures { λ r. ⌜ Tells out before r (interviewed (tabled objects table) (opening n (lent rows list) [] [])) ⌝ }
+    ensures { λ r. ⌜ Tells out r (interviewed (tabled objects table) (opening n (lent rows list) [] [])) ⌝ }
 {
-    let opened = session_calls::open(n, 0, rows, list, &table[..0]);
+    let opened = session_opening::open(n, 0, rows, list, &table[..0]);
     match opened {
-        session_calls::Opened::Refused(refusal) => write_refusal(refusal, out, fd, before),
-        session_calls::Opened::Open(session) => {
+        session_opening::Opened::Refused(refusal) => handed_output::write_refusal(refusal, out, fd),
+        session_opening::Opened::Open(session) => {
             let start = interview_replies::Interview {
                 n: session.n,
                 rows: session.rows,
@@ -114,7 +72,7 @@ fn interview_table(
                 current: session.current,
                 changes: 0,
             };
-            run_beats(table, objects, start, rows, list, out, fd, before)
+            run_beats(table, objects, start, rows, list, out, fd)
         }
     }
 }
@@ -127,7 +85,7 @@ pub fn hold(
     rule_places: usize,
     out: &mut [u8; OUTPUT_BYTES],
     fd: i32,
-) -> Told
+) -> handed_output::Told
     ensures { λ r. ⌜ Writes out r (outputWith (placesFor «row_places» «rule_places») (now (file .entry))) ⌝ }
 {
     let mut table = [0u64; session::Session::ROWS * 2];
@@ -135,13 +93,9 @@ pub fn hold(
     let mut list = [0u64; session::Session::RULES * 2];
     let row_words = implication::smaller(row_places, session::Session::ROWS) * 2;
     let list_words = implication::smaller(rule_places, session::Session::RULES) * 2;
-    let before = Handed {
-        bytes: 0,
-        whole: true,
-    };
     let opened = table_marks::read_complete(file, &mut table);
     match opened {
-        table_layout::Opened::Refused(refusal) => write_refusal(refusal, out, fd, before),
+        table_layout::Opened::Refused(refusal) => handed_output::write_refusal(refusal, out, fd),
         table_layout::Opened::Found(layout) => interview_table(
             &table,
             layout.objects,
@@ -150,7 +104,6 @@ pub fn hold(
             &mut list[..list_words],
             out,
             fd,
-            before,
         ),
     }
 }

@@ -47,10 +47,8 @@ pub fn line_at(file: &[u8], at: usize) -> Line
         }
         i += 1;
     }
-    Line {
-        size: i - at,
-        step: i - at,
-    }
+    let size = i - at;
+    Line { size, step: size }
 }
 
 // Where the next line begins.

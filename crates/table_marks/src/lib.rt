@@ -1,63 +1,19 @@
-// The marks of a table file: each line of them as the two words of a row (an object), read into lent row words; and whether no mark is
-// unknown.
+// The marks of a table file: each line of them as the two words of a row (an object), read into lent row words.
 ghost use mathlib.Core.Path.{_≡_};
 ghost use Prim.Native.Nat.{_*_, _≤_};
 ghost use mathlib.Core.List.{_++_};
 ghost use lib.ListN.{length, drop, replicate};
-ghost use Rattle.context.specs.Objects.{object};
 ghost use Rattle.machine.specs.Checks.{mostAttributes, mostObjects, badLength};
-ghost use Rattle.table_layout.specs.declared.Kind.the-variants.{Marks};
+ghost use Rattle.table_kinds.specs.declared.Kind.the-variants.{Marks};
 ghost use Rattle.table_layout.specs.declared.Layout.{Layout as LayoutT};
 ghost use Rattle.table_layout.specs.declared.Opened.the-variants.{Found};
-ghost use Rattle.table_bytes.specs.Bytes.{isYes, isNo};
-ghost use Rattle.table_layout.specs.Layout.{walk, Passes, openedOf};
-ghost use Rattle.table_marks.specs.Marks.{bitOf, rowOf, rowsFrom, flat, readingFrom, reading};
-ghost use Rattle.table_marks.specs.Marks.{openedAs, readingAs, rowWords, wordsRead};
-ghost use Rattle.table_marks.specs.Complete.{completeOf, openedComplete, completeReading, completeWordsRead};
+ghost use Rattle.table_walk.specs.Walk.{walk, Passes};
+ghost use Rattle.table_layout.specs.Layout.{openedOf};
+ghost use Rattle.table_rows.specs.Rows.{rowsFrom};
+ghost use Rattle.table_marks.specs.Marks.{flat, readingFrom, reading, readingAs, rowWords, wordsRead};
+ghost use Rattle.table_marks.specs.Marks.{completeReading, completeWordsRead};
 use table_layout::Layout;
 use table_layout::Opened;
-
-// The two words of a row.
-struct Row {
-    pub yes: u64,
-    pub no: u64,
-}
-
-// 1 for a yes mark, else 0.
-fn yes_bit(b: u8) -> u64
-    ensures { λ r. ⌜ r ≡ bitOf (isYes b) ⌝ }
-{
-    if table_bytes::is_yes(b) {
-        return 1;
-    }
-    0
-}
-
-// 1 for a no mark, else 0.
-fn no_bit(b: u8) -> u64
-    ensures { λ r. ⌜ r ≡ bitOf (isNo b) ⌝ }
-{
-    if table_bytes::is_no(b) {
-        return 1;
-    }
-    0
-}
-
-// The row of a line of marks.
-fn row_of(line: &[u8]) -> Row
-    requires { ⌜ length (now line) ≤ mostAttributes ⌝ }
-    ensures { λ r. ⌜ object (r .yes) (r .no) ≡ rowOf (now (line .entry)) ⌝ }
-{
-    let mut yes = 0;
-    let mut no = 0;
-    let mut j = line.len();
-    while 0 < j {
-        j -= 1;
-        yes = yes * 2 + yes_bit(line[j]);
-        no = no * 2 + no_bit(line[j]);
-    }
-    Row { yes, no }
-}
 
 // The mark reader: the part of the file that starts at the first line of marks, into row words that have place for its rows.
 fn read_rows(part: &[u8], count: usize, n: usize, rows: &mut [u64])
@@ -68,7 +24,7 @@ fn read_rows(part: &[u8], count: usize, n: usize, rows: &mut [u64])
     let mut i = 0;
     while i < count {
         let end = at + n;
-        let row = row_of(&part[at..end]);
+        let row = table_rows::row_of(&part[at..end]);
         rows[i * 2] = row.yes;
         rows[i * 2 + 1] = row.no;
         at = table_lines::next_at(part, end);
@@ -115,27 +71,6 @@ pub fn read_marks(file: &[u8], rows: &mut [u64]) -> Opened
     read_opened(file, opened, rows)
 }
 
-// A layout that reading a file found, where it has to be the same as another one: else 3.
-fn keep_same(found: Layout, layout: Layout) -> Opened
-    ensures { λ r. ⌜ r ≡ openedAs layout (Found found) ⌝ }
-{
-    if table_layout::same_layout(found, layout) {
-        return Opened::Found(found);
-    }
-    Opened::Refused(session::refuse(3, 0))
-}
-
-// Opens the file of an opened table: 3 comes after 21 to 28 for a layout that is not the one found.
-fn open_as(file: &[u8], layout: Layout) -> Opened
-    ensures { λ r. ⌜ r ≡ openedAs layout (openedOf (now (file .entry))) ⌝ }
-{
-    let opened = table_layout::open(file);
-    match opened {
-        Opened::Found(found) => keep_same(found, layout),
-        Opened::Refused(refusal) => Opened::Refused(refusal),
-    }
-}
-
 // Reads the marks of an opened table, its file and its layout, as `read_marks` does.
 pub fn read_marks_of(file: &[u8], layout: Layout, rows: &mut [u64]) -> Opened
     ensures answer { λ r. ⌜ r ≡ readingAs layout (length (now (rows .entry))) (now (file .entry)) ⌝ }
@@ -144,39 +79,8 @@ pub fn read_marks_of(file: &[u8], layout: Layout, rows: &mut [u64]) -> Opened
     if bad_length(rows.len()) {
         return Opened::Refused(session::refuse(2, 0));
     }
-    let opened = open_as(file, layout);
+    let opened = found_layout::open_as(file, layout);
     read_opened(file, opened, rows)
-}
-
-// The first of the lines of marks of an opened table that has an unknown mark is refused with 29.
-fn complete_from(file: &[u8], layout: Layout) -> Opened
-    requires { ⌜ openedOf (now file) ≡ Found layout ⌝ }
-    ensures { λ r. ⌜ r ≡ completeOf (now (file .entry)) (Found layout) ⌝ }
-{
-    let count = layout.objects;
-    let n = layout.attributes;
-    let mut at = layout.marks;
-    let mut i = 0;
-    while i < count {
-        let end = at + n;
-        if !table_bytes::all_pass(&file[at..end], table_bytes::ByteKind::Known) {
-            return Opened::Refused(session::refuse(29, at));
-        }
-        at = table_lines::next_at(file, end);
-        i += 1;
-    }
-    Opened::Found(layout)
-}
-
-// Opens a table file that has to be complete: 29 comes after 21 to 28 have passed for the whole file.
-pub fn open_complete(file: &[u8]) -> Opened
-    ensures { λ r. ⌜ r ≡ openedComplete (now (file .entry)) ⌝ }
-{
-    let opened = table_layout::open(file);
-    match opened {
-        Opened::Found(layout) => complete_from(file, layout),
-        Opened::Refused(refusal) => Opened::Refused(refusal),
-    }
 }
 
 // Reads the marks of a table file that has to be complete, as `read_marks` does.
@@ -187,6 +91,6 @@ pub fn read_complete(file: &[u8], rows: &mut [u64]) -> Opened
     if bad_length(rows.len()) {
         return Opened::Refused(session::refuse(2, 0));
     }
-    let opened = open_complete(file);
+    let opened = complete_tables::open_complete(file);
     read_opened(file, opened, rows)
 }

@@ -6,7 +6,7 @@ use Prim.Native.Nat.{ℕ, zero, suc}
 use lib.Dec.{eqb, ltb}
 use lib.ListN.{take, drop}
 use Rattle.table_lines.specs.Lines.{lineOf, after}
-use Rattle.table_layout.specs.Layout.{finds}
+use Rattle.found_layout.specs.Found.{finds}
 use Rattle.table_layout.specs.declared.Layout.{Layout}
 use Rattle.table_names.specs.declared.Span.{Span}
 pub mod Laws

@@ -3,7 +3,7 @@
 ghost use mathlib.Core.Path.{_≡_};
 ghost use Prim.Native.Nat.{_+_, _≤_};
 ghost use lib.ListN.{length};
-ghost use Rattle.table_layout.specs.Layout.{finds};
+ghost use Rattle.found_layout.specs.Found.{finds};
 ghost use Rattle.table_names.specs.Names.{skipped, bytesOf, spanFrom, objectSpan, attributeSpan, nameRefusal, Named};
 use table_layout::Layout;
 
@@ -31,7 +31,7 @@ fn skip(file: &[u8], start: usize, count: usize) -> usize
 fn span_of(file: &[u8], layout: Layout, count: usize, start: usize, number: usize) -> Span
     ensures { λ r. ⌜ r ≡ spanFrom (finds (now (file .entry)) layout) count start number (now (file .entry)) ⌝ }
 {
-    if !table_layout::is_found(file, layout) {
+    if !found_layout::is_found(file, layout) {
         return Span { at: 0, size: 0 };
     }
     if count <= number {

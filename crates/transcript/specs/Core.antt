@@ -9,14 +9,14 @@ use lib.ListN.{length, getD}
 use lib.Dec.{eqb, ltb, leb}
 use Rattle.theory.specs.Implications.{Implication}
 use Rattle.attribute_set.specs.Sets.{full}
-use Rattle.implication.specs.Next.{next}
 use Rattle.context.specs.Objects.{Object, object, firstRefuting}
 use Rattle.session.specs.declared.Refusal.{Refusal}
 use Rattle.session.specs.Refusals.{refusal}
-use Rattle.machine.specs.Checks.{State, force, reachOf, question}
-use Rattle.machine.specs.Machine.{moveTo, afterYes, afterNo}
+use Rattle.machine.specs.Checks.{State, reachOf, question}
+use Rattle.machine.specs.Machine.{afterMove, afterYes, afterNo}
 use Rattle.output_lines.specs.Lines.{yesLine, noLine, refusalLine}
 use Rattle.transcript.specs.Output.{Beat, more, last, closing}
+pub mod Cases
 pub mod Along
 pub mod Beats
 pub mod Kept
@@ -61,7 +61,7 @@ coreBeat table s changes =
     elim (eqb (s .current) (full (s .n))) [
       | true ↦ last (closing s changes)
       | false ↦ elim (eqb (reachOf s) (s .current)) [
-        | true ↦ more [] (moveTo s (next (force s) (s .n) (s .current))) (counted changes)
+        | true ↦ more [] (afterMove s) (counted changes)
         | false ↦ coreReply table s changes (question s)
       ]
     ]

@@ -11,8 +11,8 @@ use Rattle.context.specs.Objects.{Object, object, firstRefuting}
 use Rattle.machine.specs.Checks.{Lent, State, mostObjects, mostImplications}
 use Rattle.machine.specs.Machine.{step, accept, reject, Answer, finished, moved, asked, taken, followed, refuted, unrefuted, refused, perform, opened, rejected, Opening, opening}
 use Rattle.table_layout.specs.Layout.{mostBytes, openedOf}
-use Rattle.table_marks.specs.Marks.{rowsFrom}
-use Rattle.table_marks.specs.Complete.{completeOf}
+use Rattle.table_rows.specs.Rows.{rowsFrom}
+use Rattle.complete_tables.specs.Complete.{completeOf}
 use Rattle.table_layout.specs.declared.Layout.{Layout}
 use Rattle.table_layout.specs.declared.Opened.{Opened}
 use Rattle.table_layout.specs.declared.Opened.the-variants.{Found, Refused}

@@ -1,3 +1,4 @@
+pub mod Instance
 pub mod Walks
 pub mod Behind
 pub mod Calls

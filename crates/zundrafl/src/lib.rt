@@ -1,3 +1,4 @@
 // The functions for C: the record or the layout is lent first and the place of the answer last, and each slice is a pointer and a count.
+mod refusals;
 mod sessions;
 mod tables;

@@ -8,7 +8,7 @@ ghost use Rattle.saved_interview.specs.TakingUp.{TakesUpOn};
 
 // The opening: the opened record, or the given one where it is refused.
 #[no_mangle]
-pub extern "C" fn zundrafl_open(
+pub extern "C" fn zundrafl_open_session(
     session: &mut session::Session,
     n: usize,
     used: usize,

@@ -1,7 +1,7 @@
 // The table file for C. A call that only reads takes the layout by `&`; the others store it where it changed.
 ghost use mathlib.Core.Path.{_≡_};
 ghost use Rattle.table_layout.specs.Layout.{openedOf};
-ghost use Rattle.table_marks.specs.Complete.{openedComplete};
+ghost use Rattle.complete_tables.specs.Complete.{openedComplete};
 ghost use Rattle.table_names.specs.Names.{objectSpan, attributeSpan};
 ghost use Rattle.coded_tables.specs.Tables.{OpensTableOn, ReadsMarks, codeOfSpan};
 
@@ -24,7 +24,7 @@ pub extern "C" fn zundrafl_open_table(
 
 // Opens a table file that has to be complete.
 #[no_mangle]
-pub extern "C" fn zundrafl_open_complete(
+pub extern "C" fn zundrafl_open_complete_table(
     layout: &mut table_layout::Layout,
     file: &[u8],
     answer: &mut coded_calls::Answer,

@@ -15,9 +15,6 @@ use Rattle.attribute_set.proofs.single.Reads as single-reads
 returns : tie.Need-returns
 returns c = sym (mod-eq-of-lt (lt-of-lt-of-le (c .before .fits .set .fits) (pow-mono (c .if1 .taken))))
 
-single-requires : tie.Need-single-requires
-single-requires c κs = search needs
-
 sub-result : tie.Need-sub-result
 sub-result c = omega (arith, c .single .ensures, pow-pos (c .before .before .args .j))
 
@@ -27,4 +24,4 @@ returns-2 c =
     ap (λ b. bitAnd (a .set) (b - 1)) (c .single .ensures) ∙ and-mask (a .set) (a .j)
 
 pub below-of-spec : {M : Type 1} → statement M
-below-of-spec = tie.close (tie.spec returns single-requires sub-result returns-2)
+below-of-spec = tie.close (tie.spec returns (λ c κs. search needs) sub-result returns-2)

@@ -11,11 +11,8 @@ use Rattle.attribute_set.proofs.digit_of.Lts as lts
 returns : tie.Need-returns
 returns c = sym (digit-high (c .before .args .set) (c .before .args .j) 64 (c .before .fits .set .fits) (c .if1 .taken))
 
-shr-result : tie.Need-shr-result
-shr-result c = search needs
-
 returns-2 : tie.Need-returns-2
 returns-2 c = and-mask _ 1
 
 pub digit-of-spec : {M : Type 1} → statement M
-digit-of-spec = tie.close (tie.spec returns shr-result returns-2)
+digit-of-spec = tie.close (tie.spec returns (λ c. search needs) returns-2)

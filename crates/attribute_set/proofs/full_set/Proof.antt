@@ -17,9 +17,6 @@ returns c =
     let e : min (c .before .args .n) 64 ≡ 64 = omega arith in
     rw e
 
-single-requires : tie.Need-single-requires
-single-requires c κs = search needs
-
 sub-result : tie.Need-sub-result
 sub-result c = omega (arith, c .single .ensures, pow-pos (c .before .before .args .n))
 
@@ -30,4 +27,4 @@ returns-2 c =
     rw e (ap (λ k. k - 1) (c .single .ensures))
 
 pub full-set-spec : {M : Type 1} → statement M
-full-set-spec = tie.close (tie.spec returns single-requires sub-result returns-2)
+full-set-spec = tie.close (tie.spec returns (λ c κs. search needs) sub-result returns-2)

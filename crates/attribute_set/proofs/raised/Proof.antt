@@ -17,12 +17,6 @@ use Rattle.attribute_set.proofs.single.Reads as single-reads
 returns : tie.Need-returns
 returns c = sym (raise-past (c .before .args .set) (c .before .args .j) 64 (c .before .fits .set .fits) (c .if1 .taken))
 
-single-requires : tie.Need-single-requires
-single-requires c κs = search needs
-
-below-of-requires : tie.Need-below-of-requires
-below-of-requires c κs = search needs
-
 returns-2 : tie.Need-returns-2
 returns-2 c =
     let a = c .before .before .before .args in
@@ -33,4 +27,4 @@ returns-2 c =
     ∙ sym (mod-eq-of-lt (lt-of-lt-of-le (raise-lt (a .set) (a .j)) (pow-mono {i = suc (a .j)} {j = 64} (omega arith))))
 
 pub raised-spec : {M : Type 1} → statement M
-raised-spec = tie.close (tie.spec returns single-requires below-of-requires returns-2)
+raised-spec = tie.close (tie.spec returns (λ c κs. search needs) (λ c κs. search needs) returns-2)

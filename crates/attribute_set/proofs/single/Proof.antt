@@ -10,11 +10,8 @@ use Rattle.attribute_set.proofs.single.Tie as tie
 use Rattle.attribute_set.proofs.single.Reads as reads
 use Rattle.attribute_set.proofs.single.Lts as lts
 
-shl-result : tie.Need-shl-result
-shl-result c = search needs
-
 returns : tie.Need-returns
 returns c = shl-exact {a = 1} 1 (c .args .j) 64 (lit< tt) (omega arith) ∙ one-mul _
 
 pub single-spec : {M : Type 1} → statement M
-single-spec = tie.close (tie.spec shl-result returns)
+single-spec = tie.close (tie.spec (λ c. search needs) returns)

@@ -7,10 +7,10 @@ use Prim.Native.Nat.{ℕ, zero, suc, _+_, _-_, _*_, _/_, _%_, _^_, _≤_, _<_, m
 use native.Mathlib.Nat.{mod-lt, mod-eq-of-lt, div-eq-of-lt, div-self, lt-of-lt-of-le}
 use native.Mathlib.Omega.{arith}
 use lib.Arith.{bin-ind, digits-mod}
-use lib.Pow.{shr-shr, pow-mono, pow-lt, pow-pos, ones-lt}
+use lib.Pow.{shr-shr, pow-mono, pow-lt, pow-pos}
 use lib.Bits.{bitAnd, bitOr, and-step, or-step, and-shr, or-shr, or-add-and, and-le-l, and-le-r, and-mask}
 use lib.Dec.{lit<, ltb}
-use borrow.Author.Tests.{eqb-true, eqb-false, eq-eqb, not-true, not-false, ltb-true, ltb-false}
+use borrow.Author.Tests.{eqb-true, eqb-false, eq-eqb, ne-eqb, not-true, not-false, ltb-true, ltb-false}
 use Rattle.attribute_set.specs.Sets.{digit, In, Sub, Apart, full, without, inside, meets}
 
 pub lt-or-le : (i j : ℕ) → (i < j) ⊎ (j ≤ i)
@@ -135,6 +135,10 @@ pub outside-sub : (x y : ℕ) → inside x y ≡ false → Sub x y → ⊥
 unfolding inside
 outside-sub x y e s = eqb-false _ _ e (sub→and s)
 
+pub not-inside : {x y : ℕ} → (Sub x y → ⊥) → inside x y ≡ false
+unfolding inside
+not-inside {x} {y} n = ne-eqb _ _ (λ e. n (and→sub x y e))
+
 pub sub-dec : (x y : ℕ) → Dec (Sub x y)
 sub-dec x y = go (inside x y) refl
   where
@@ -231,13 +235,13 @@ digit-high x i j h l = ap (λ (k : ℕ). k % 2) (div-eq-of-lt (lt-of-lt-of-le h 
 pub member-lt : (x i n : ℕ) → x < 2 ^ n → In i x → i < n
 member-lt x i n hx h = ⊎-elim (λ l. l) (λ l. absurd (omega (arith, digit-high x i n hx l))) (lt-or-le i n)
 
-pub full-lt : (n : ℕ) → full n < 2 ^ n
-unfolding full
-full-lt n = ones-lt n
-
 pub lt-sub-full : (x n : ℕ) → x < 2 ^ n → Sub x (full n)
 unfolding full
 lt-sub-full x n h = and→sub x (2 ^ n - 1) (and-mask x n ∙ mod-eq-of-lt h)
+
+pub full-lt : (n : ℕ) → full n < 2 ^ n
+unfolding full
+full-lt n = omega (arith, pow-pos n)
 
 pub sub-full-lt : (x n : ℕ) → Sub x (full n) → x < 2 ^ n
 unfolding full

@@ -8,24 +8,6 @@ replayed c =
     let d = c .before .before .before .before in
     d .before .before .before .before
 
-replay-requires : tie.Need-replay-requires
-replay-requires c κs = search needs
-
-answer-of-log-requires : tie.Need-answer-of-log-requires
-answer-of-log-requires c κs = search needs
-
-differ-requires : tie.Need-differ-requires
-differ-requires c κs = search needs
-
-same-length : tie.Need-same-length
-same-length c = search needs
-
-same-length-2 : tie.Need-same-length-2
-same-length-2 c = search needs
-
-same-length-3 : tie.Need-same-length-3
-same-length-3 c = search needs
-
 returns : tie.Need-returns
 returns c =
     let d = c .before in
@@ -34,4 +16,4 @@ returns c =
 
 pub replay-coded-spec : {M : Type 1} → statement M
 replay-coded-spec =
-    tie.close (tie.spec replay-requires answer-of-log-requires differ-requires same-length same-length-2 same-length-3 returns)
+    tie.close (tie.spec (λ c κs. search needs) (λ c κs. search needs) (λ c κs. search needs) (λ c. search needs) (λ c. search needs) (λ c. search needs) returns)

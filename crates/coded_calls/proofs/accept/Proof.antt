@@ -5,17 +5,8 @@ use Rattle.coded_calls.specs.Codes.{codeOf}
 use Rattle.coded_calls.proofs.accept.Statement.{statement}
 use Rattle.coded_calls.proofs.accept.Tie as tie
 
-accept-requires : tie.Need-accept-requires
-accept-requires c κs = search needs
-
-answer-of-reply-requires : tie.Need-answer-of-reply-requires
-answer-of-reply-requires c κs = search needs
-
-same-length : tie.Need-same-length
-same-length c = search needs
-
 returns : tie.Need-returns
 returns c = said-turn codeOf (c .answer-of-reply .ensures) (c .before .before .before .before .accept .ensures)
 
 pub accept-spec : {M : Type 1} → statement M
-accept-spec = tie.close (tie.spec accept-requires answer-of-reply-requires same-length returns)
+accept-spec = tie.close (tie.spec (λ c κs. search needs) (λ c κs. search needs) (λ c. search needs) returns)

@@ -3,11 +3,8 @@ use borrow.Author.Needs.{needs}
 use Rattle.coded_calls.proofs.answer_of_refusal.Statement.{statement}
 use Rattle.coded_calls.proofs.answer_of_refusal.Tie as tie
 
-in-words-requires : tie.Need-in-words-requires
-in-words-requires c κs = search needs
-
 returns : tie.Need-returns
 returns c = c .in-words .ensures
 
 pub answer-of-refusal-spec : {M : Type 1} → statement M
-answer-of-refusal-spec = tie.close (tie.spec in-words-requires returns)
+answer-of-refusal-spec = tie.close (tie.spec (λ c κs. search needs) returns)

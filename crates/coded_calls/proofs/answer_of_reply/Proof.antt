@@ -1,22 +1,10 @@
 -- Each arm writes the code and the two values of its own variant.
 use mathlib.Core.Path.{sym, ap, _∙_}
 use borrow.Author.Needs.{needs}
-use Rattle.session_calls.specs.Answers.{replyAnswer}
+use Rattle.session_replies.specs.Answers.{replyAnswer}
 use Rattle.coded_calls.specs.Codes.{codeOf}
 use Rattle.coded_calls.proofs.answer_of_reply.Statement.{statement}
 use Rattle.coded_calls.proofs.answer_of_reply.Tie as tie
-
-enum-told : tie.Need-enum-told
-enum-told c = search needs
-
-in-words-requires : tie.Need-in-words-requires
-in-words-requires c κs = search needs
-
-enum-known-answer : tie.Need-enum-known-answer
-enum-known-answer c = search needs
-
-answer-of-refusal-requires : tie.Need-answer-of-refusal-requires
-answer-of-refusal-requires c κs = search needs
 
 returns : tie.Need-returns
 returns c = c .in-words .ensures ∙ sym (ap (λ a. codeOf (replyAnswer a)) (c .before .enum-told .given .1))
@@ -25,4 +13,12 @@ returns-2 : tie.Need-returns-2
 returns-2 c = c .answer-of-refusal .ensures ∙ sym (ap (λ a. codeOf (replyAnswer a)) (c .before .before .answer .given .1))
 
 pub answer-of-reply-spec : {M : Type 1} → statement M
-answer-of-reply-spec = tie.close (tie.spec enum-told in-words-requires enum-known-answer answer-of-refusal-requires returns returns-2)
+answer-of-reply-spec =
+    tie.close
+    (tie.spec
+    (λ c. search needs)
+    (λ c κs. search needs)
+    (λ c. search needs)
+    (λ c κs. search needs)
+    returns
+    returns-2)

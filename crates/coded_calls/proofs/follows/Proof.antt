@@ -5,14 +5,8 @@ use Rattle.coded_calls.specs.Codes.{codeOf}
 use Rattle.coded_calls.proofs.follows.Statement.{statement}
 use Rattle.coded_calls.proofs.follows.Tie as tie
 
-follows-requires : tie.Need-follows-requires
-follows-requires c κs = search needs
-
-answer-of-following-requires : tie.Need-answer-of-following-requires
-answer-of-following-requires c κs = search needs
-
 returns : tie.Need-returns
 returns c = said codeOf (c .answer-of-following .ensures) (c .before .follows .ensures)
 
 pub follows-spec : {M : Type 1} → statement M
-follows-spec = tie.close (tie.spec follows-requires answer-of-following-requires returns)
+follows-spec = tie.close (tie.spec (λ c κs. search needs) (λ c κs. search needs) returns)

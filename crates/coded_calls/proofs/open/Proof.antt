@@ -3,8 +3,8 @@ use mathlib.Core.Path.{_≡_, refl, sym, ap, _∙_, subst}
 use borrow.Author.Needs.{needs}
 use Rattle.machine.specs.Machine.{Opening}
 use Rattle.machine.specs.Calls.{openingFrom}
-use Rattle.session_calls.specs.declared.Opened.{Opened}
-use Rattle.session_calls.specs.Answers.{openingOf}
+use Rattle.session_opening.specs.declared.Opened.{Opened}
+use Rattle.session_opening.specs.Opening.{openingOf}
 use Rattle.coded_calls.specs.Codes.{codeOfOpening, isOpened, OpeningLeaves}
 use Rattle.coded_calls.proofs.«open».Statement.{statement}
 use Rattle.coded_calls.proofs.«open».Tie as tie
@@ -17,21 +17,6 @@ opening : (c : tie.After-open) (x : Opened) → c .«open» .result ≡ x
     → let a = start c .args in
     openingOf x (a .rows .now) (a .list .now) (a .background .now) ≡ openingFrom (a .n) (a .used) (a .rows .now) (a .list .now) (a .background .now)
 opening c x e = let a = start c .args in sym (ap (λ y. openingOf y (a .rows .now) (a .list .now) (a .background .now)) e) ∙ c .«open» .ensures
-
-open-requires : tie.Need-open-requires
-open-requires c κs = search needs
-
-enum-known-opened : tie.Need-enum-known-opened
-enum-known-opened c = search needs
-
-in-words-requires : tie.Need-in-words-requires
-in-words-requires c κs = search needs
-
-enum-known-opened-2 : tie.Need-enum-known-opened-2
-enum-known-opened-2 c = search needs
-
-answer-of-refusal-requires : tie.Need-answer-of-refusal-requires
-answer-of-refusal-requires c κs = search needs
 
 returns : tie.Need-returns
 returns c =
@@ -54,4 +39,4 @@ returns-2 c =
 pub open-spec : {M : Type 1} → statement M
 open-spec =
     tie.close
-    (tie.spec open-requires enum-known-opened in-words-requires enum-known-opened-2 answer-of-refusal-requires returns returns-2)
+    (tie.spec (λ c κs. search needs) (λ c. search needs) (λ c κs. search needs) (λ c. search needs) (λ c κs. search needs) returns returns-2)

@@ -5,14 +5,8 @@ use Rattle.coded_calls.specs.Codes.{codeOf}
 use Rattle.coded_calls.proofs.step.Statement.{statement}
 use Rattle.coded_calls.proofs.step.Tie as tie
 
-make-step-requires : tie.Need-make-step-requires
-make-step-requires c κs = search needs
-
-answer-of-step-requires : tie.Need-answer-of-step-requires
-answer-of-step-requires c κs = search needs
-
 returns : tie.Need-returns
 returns c = said-turn codeOf (c .answer-of-step .ensures) (c .before .before .make-step .ensures)
 
 pub step-spec : {M : Type 1} → statement M
-step-spec = tie.close (tie.spec make-step-requires answer-of-step-requires returns)
+step-spec = tie.close (tie.spec (λ c κs. search needs) (λ c κs. search needs) returns)

@@ -11,12 +11,6 @@ use borrow.Author.Needs.{needs}
 use Rattle.context.proofs.first_refuting.Statement.{statement}
 use Rattle.context.proofs.first_refuting.Tie as tie
 
-smaller-requires : tie.Need-smaller-requires
-smaller-requires c κs = search needs
-
-refuting-among-requires : tie.Need-refuting-among-requires
-refuting-among-requires c κs = search needs
-
 -- what the call gives, for the number of whole objects
 found : (c : tie.After-refuting-among) (rs : List (Implication ℕ))
     → let a = c .before .before .before .args in
@@ -42,4 +36,4 @@ returns-2 c rs =
 
 pub first-refuting-spec : {M : Type 1} → statement M
 first-refuting-spec =
-    tie.close (tie.spec smaller-requires refuting-among-requires returns returns-2)
+    tie.close (tie.spec (λ c κs. search needs) (λ c κs. search needs) returns returns-2)

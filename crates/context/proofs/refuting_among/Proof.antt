@@ -25,13 +25,20 @@ Inv-loop rows count premise conclusion place₀ place =
 abbrev μ-loop : tie.MeasureT-loop
 μ-loop rows count premise conclusion place₀ place = count - place
 
+-- the loop and the arguments, seen from behind the test of an object
+abbrev at : tie.After-refuted-by Inv-loop μ-loop → tie.At-loop Inv-loop μ-loop
+at c = c .before .before .before .before
+
+abbrev start : tie.At-loop Inv-loop μ-loop → tie.Start Inv-loop μ-loop
+start c = c .before .before
+
 loop-holds : tie.Need-loop-holds Inv-loop μ-loop
 loop-holds c = (omega arith, λ rs. rw sub-zero (omega arith))
 
 returns : tie.Need-returns Inv-loop μ-loop
 returns c rs =
-    let l = c .before .before .before .before .before .loop in
-    let a = c .before .before .before .before .before .before .before .args in
+    let l = at (c .before) .loop in
+    let a = start (at (c .before)) .args in
     let r = implication (a .premise) (a .conclusion) in
     let h : l .place < a .count = omega arith in
     omega (
@@ -43,8 +50,8 @@ returns c rs =
 
 loop-again : tie.Need-loop-again Inv-loop μ-loop
 loop-again c =
-    let l = c .before .before .before .before .before .loop in
-    let a = c .before .before .before .before .before .before .before .args in
+    let l = at (c .before) .loop in
+    let a = start (at (c .before)) .args in
     let r = implication (a .premise) (a .conclusion) in
     let h : l .place < a .count = omega arith in (
       omega arith,
@@ -60,7 +67,7 @@ returns-2 : tie.Need-returns-2 Inv-loop μ-loop
 unfolding firstRefuting lowest
 returns-2 c rs =
     let l = c .before .loop in
-    let a = c .before .before .before .args in
+    let a = start (c .before) .args in
     let r = implication (a .premise) (a .conclusion) in
     omega (
       arith,

@@ -2,15 +2,15 @@
 -- say of members. An object refutes an implication just if it has the premise and lacks some attribute of the conclusion.
 -- All else reads `has`, `lacks` and `refutes` through these laws.
 use mathlib.Core.Path.{_≡_, refl, sym, ap, _∙_}
-use mathlib.Core.Bool.{Bool, true, false, _&&_, false≢true}
+use mathlib.Core.Bool.{Bool, true, false, false≢true}
 use mathlib.Core.List.{List, _∷_, _++_}
 use Prim.Native.Nat.{ℕ, suc, _/_, _≤_, _<_, min}
 use native.Mathlib.Omega.{arith}
 use lib.ListN.{length}
 use Rattle.theory.specs.Lists.{All}
 use Rattle.theory.specs.Implications.{Implication}
-use Rattle.attribute_set.specs.Sets.{digit, In, Sub, Apart, inside, meets}
-use Rattle.attribute_set.specs.Sets.Laws.{digit-none, inside-sub, outside-sub, meets-some, meets-apart, apart-meets, apart-sub, sub-refl}
+use Rattle.attribute_set.specs.Sets.{digit, In, Sub, Apart, meets}
+use Rattle.attribute_set.specs.Sets.Laws.{digit-none, sub-inside, not-inside, sub-dec, meets-some, meets-apart, apart-meets, apart-sub, sub-refl}
 use Rattle.implication.specs.Closure.{closure}
 use Rattle.implication.specs.Closure.Laws.{closure-mono}
 use Rattle.implication.specs.Pairs.Laws.{length-pairs, pairs-whole}
@@ -33,40 +33,39 @@ module _ (rs : List (Implication ℕ)) (o : Object) where
   lacks-none e x = record { at = λ i a b. omega (arith, digit-none i, ap (λ y. digit y i) e) }
 
   module _ (r : Implication ℕ) where
-    -- where o has the premise, the test is whether it lacks any of the conclusion; where it has not, it is false
-    refutes-cases : (P : Bool → Type 0) → (Sub (r .premise) (has rs o) → P (meets (r .conclusion) (lacks rs o)))
-        → ((Sub (r .premise) (has rs o) → ⊥) → P false) → P (refutes rs o r)
-    unfolding refutes
-    refutes-cases P in′ out = go (inside (r .premise) (has rs o)) refl
-      where
-        go : (b : Bool) → inside (r .premise) (has rs o) ≡ b → P (b && meets (r .conclusion) (lacks rs o))
-        go true e = in′ (inside-sub _ _ e)
-        go false e = out (outside-sub _ _ e)
-
-    -- the same, as two equations
-    pub refutes-taken : Sub (r .premise) (has rs o) → refutes rs o r ≡ meets (r .conclusion) (lacks rs o)
-    refutes-taken h = refutes-cases (λ b. b ≡ meets (r .conclusion) (lacks rs o)) (λ k. refl) (λ k. absurd (k h))
-
+    -- without the premise nothing is refuted
     pub refutes-left : (Sub (r .premise) (has rs o) → ⊥) → refutes rs o r ≡ false
-    refutes-left h = refutes-cases (λ b. b ≡ false) (λ k. absurd (h k)) (λ k. refl)
+    unfolding refutes
+    refutes-left n = rw (not-inside n)
 
     -- o refutes r: it has the premise, and lacks some attribute of the conclusion
     pub refutes-has : refutes rs o r ≡ true → Sub (r .premise) (has rs o)
-    refutes-has = refutes-cases (λ b. b ≡ true → Sub (r .premise) (has rs o)) (λ h e. h) (λ h e. absurd (false≢true e))
+    refutes-has e = go (sub-dec (r .premise) (has rs o))
+      where
+        go : Dec (Sub (r .premise) (has rs o)) → Sub (r .premise) (has rs o)
+        go (yes h) = h
+        go (no n) = absurd (false≢true (sym (refutes-left n) ∙ e))
 
     pub refutes-lacks : refutes rs o r ≡ true → (i : ℕ) × In i (r .conclusion) × In i (lacks rs o)
-    refutes-lacks =
-        refutes-cases (λ b. b ≡ true → (i : ℕ) × In i (r .conclusion) × In i (lacks rs o)) (λ h e. meets-some _ _ e)
-        (λ h e. absurd (false≢true e))
+    unfolding refutes
+    refutes-lacks e = meets-some _ _ (rw (sub-inside (refutes-has e)) at e)
 
     -- o does not refute r: where it has the premise it lacks nothing of the conclusion
     pub not-refutes : refutes rs o r ≡ false → Sub (r .premise) (has rs o) → Apart (r .conclusion) (lacks rs o)
-    not-refutes =
-        refutes-cases (λ b. b ≡ false → Sub (r .premise) (has rs o) → Apart (r .conclusion) (lacks rs o))
-        (λ h e k. meets-apart _ _ e) (λ h e k. absurd (h k))
+    unfolding refutes
+    not-refutes e h = meets-apart _ _ (rw (sub-inside h) at e)
+
+    -- where o has the premise, the test is whether it lacks any of the conclusion
+    pub refutes-taken : Sub (r .premise) (has rs o) → refutes rs o r ≡ meets (r .conclusion) (lacks rs o)
+    unfolding refutes
+    refutes-taken h = rw (sub-inside h)
 
     pub spares : (Sub (r .premise) (has rs o) → Apart (r .conclusion) (lacks rs o)) → refutes rs o r ≡ false
-    spares k = refutes-cases (λ b. b ≡ false) (λ h. apart-meets (k h)) (λ h. refl)
+    spares k = go (sub-dec (r .premise) (has rs o))
+      where
+        go : Dec (Sub (r .premise) (has rs o)) → refutes rs o r ≡ false
+        go (yes h) = refutes-taken h ∙ apart-meets (k h)
+        go (no n) = refutes-left n
 
 -- ---- the first object that refutes
 

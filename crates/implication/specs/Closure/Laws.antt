@@ -196,9 +196,9 @@ close-closed (suc k) rs s h = go (eqb (pass rs s) s) refl (λ i. close-closed k 
 pub closure-least : (rs : List (Implication ℕ)) (s : ℕ) → Least words (Closed words rs) s (closure rs s)
 unfolding closure
 closure-least rs s = record {
-  above = close-above (length rs) rs s;
-  member = close-closed (length rs) rs s (missing-most rs s);
-  least = λ t c h. close-least (length rs) rs s t c h;
+  above = close-above _ rs s;
+  member = close-closed _ rs s (missing-most rs s);
+  least = λ t c h. close-least _ rs s t c h;
 }
 
 module _ (rs : List (Implication ℕ)) where

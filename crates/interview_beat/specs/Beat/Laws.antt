@@ -9,9 +9,9 @@ use borrow.Author.Tests.{eq-eqb, ne-eqb, lt-ltb, le-ltb}
 use Rattle.attribute_set.specs.Sets.{full, without}
 use Rattle.implication.specs.Pairs.Laws.{length-pairs, pairs-get}
 use Rattle.implication.specs.Closure.{implication, implicationsOf}
-use Rattle.implication.specs.Next.{next}
+use Rattle.next_set.specs.Next.{next}
 use Rattle.context.specs.Objects.{object, objectsOf, firstRefuting}
-use Rattle.context.specs.Reach.{reach}
+use Rattle.reach.specs.Reach.{reach}
 use Rattle.machine.specs.Checks.{force, reachOf}
 use Rattle.machine.specs.Machine.{moveTo}
 use Rattle.text.specs.Page.{Page, text}

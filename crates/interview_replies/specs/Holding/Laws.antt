@@ -8,13 +8,13 @@ use lib.ListN.{length, set}
 use borrow.Author.Tests.{le-leb, lt-leb}
 use Rattle.implication.specs.Pairs.Laws.{length-pairs}
 use Rattle.implication.specs.Closure.{implication, implicationsOf, inForce}
-use Rattle.implication.specs.Next.{next}
+use Rattle.next_set.specs.Next.{next}
 use Rattle.context.specs.Objects.{object, objectsOf}
 use Rattle.machine.specs.Checks.{State}
 use Rattle.machine.specs.Machine.{afterYes, afterNo}
 use Rattle.machine.specs.Calls.{stateOf}
 use Rattle.session.specs.declared.Session.{Session}
-use Rattle.session_calls.specs.Answers.Laws.{yes-holds, no-holds}
+use Rattle.session_replies.specs.Answers.Laws.{yes-holds, no-holds}
 use Rattle.text.specs.Page.{Page, text}
 use Rattle.text.specs.Page.Laws.{text-on}
 use Rattle.output_lines.specs.Lines.{yesLine, noLine, refusalLine}

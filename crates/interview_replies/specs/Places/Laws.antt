@@ -11,13 +11,12 @@ use Rattle.context.specs.Tables.{Table}
 use Rattle.machine.specs.Checks.{mostObjects, mostImplications}
 use Rattle.machine.specs.Machine.{opening}
 use Rattle.machine.specs.Calls.{openingFrom}
-use Rattle.session_calls.specs.Answers.{openingOf}
-use Rattle.session_calls.specs.declared.Opened.{Opened as Session·Opened}
-use Rattle.table_marks.specs.Marks.{rowWords}
-use Rattle.table_marks.specs.Marks.Laws.{rows-held}
-use Rattle.table_marks.specs.Complete.{completeReading, completeWordsRead}
+use Rattle.session_opening.specs.Opening.{openingOf}
+use Rattle.session_opening.specs.declared.Opened.{Opened as Session·Opened}
+use Rattle.table_marks.specs.Marks.{rowWords, completeReading, completeWordsRead}
+use Rattle.table_marks.specs.Marks.Laws.{rows-held, complete-reading, complete-words}
 use Rattle.table_layout.specs.Layout.Passed.{table-objects}
-use Rattle.table_marks.specs.Complete.Laws.{complete-layout, complete-table, complete-reading, complete-words}
+use Rattle.complete_tables.specs.Complete.Laws.{complete-layout, complete-table}
 use Rattle.table_layout.specs.declared.Layout.{Layout}
 use Rattle.table_layout.specs.declared.Opened.{Opened}
 use Rattle.table_layout.specs.declared.Opened.the-variants.{Found}

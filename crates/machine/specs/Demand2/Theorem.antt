@@ -20,7 +20,7 @@ use Rattle.implication.specs.Closure.Laws.{closure-least, closure-inside}
 use Rattle.context.specs.Places.{lowest, anywhere}
 use Rattle.context.specs.Places.Laws.{anywhere-false, anywhere-true}
 use Rattle.context.specs.Objects.{Object, refutes, contradicts}
-use Rattle.context.specs.Reach.Laws.{reach-inside}
+use Rattle.reach.specs.Reach.Laws.{reach-inside}
 use Rattle.context.specs.Tables.{Complete, Table, AgreesObject, AgreesImplication, completed}
 use Rattle.context.specs.Tables.Laws.{completed-complete, completes, completed-agrees, no-contradiction}
 use Rattle.session.specs.declared.Refusal.{Refusal}

@@ -21,16 +21,16 @@ use Rattle.attribute_set.specs.Lectic.Laws.{before-irreflexive, before-trans, s
 use Rattle.attribute_set.specs.Words.{words}
 use Rattle.implication.specs.Closure.{closure}
 use Rattle.implication.specs.Closure.Laws.{closure-least, closure-inside}
-use Rattle.implication.specs.Next.{next}
-use Rattle.implication.specs.Next.Laws.{next-is}
+use Rattle.next_set.specs.Next.{next}
+use Rattle.next_set.specs.Next.Laws.{next-is}
 use Rattle.context.specs.Places.Laws.{anywhere-false}
 use Rattle.context.specs.Objects.{Object, has, lacks, contradicts}
 use Rattle.context.specs.Objects.Laws.{consistent-apart, has-more, lacks-more}
-use Rattle.context.specs.Reach.{reach}
-use Rattle.context.specs.Reach.Laws.{reach-great, reach-inside, reach-snoc, reach-more}
+use Rattle.reach.specs.Reach.{reach}
+use Rattle.reach.specs.Reach.Laws.{reach-great, reach-inside, reach-snoc, reach-more}
 use Rattle.machine.specs.Checks.{Lent, State, force, reachOf, question, withQuestion, firstFailing, sessionChecks, yesChecks, noChecks}
 use Rattle.machine.specs.Checks.Laws.{passed, passed-append, Valid, valid, Stands, stands}
-use Rattle.machine.specs.Machine.{Call, step, accept as accepting, reject, follow, refute, moveTo, afterYes, afterNo, performed, checksOf, perform, run, opening, opened, openingState}
+use Rattle.machine.specs.Machine.{Call, step, accept as accepting, reject, follow, refute, afterMove, afterYes, afterNo, performed, checksOf, perform, run, opening, opened, openingState}
 use Rattle.machine.specs.Machine.Laws.{perform-cases, step-cases, opened-is}
 
 -- the sets of the background
@@ -87,7 +87,7 @@ module _ (s : State) (h : Reached s) where
   pub current-in : Sub (s .current) (full (s .n))
   current-in = h .explored .here .base .inside
 
-  pub moved-reached : (s .current ≡ full (s .n) → ⊥) → reachOf s ≡ s .current → Reached (moveTo s (next (force s) (s .n) (s .current)))
+  pub moved-reached : (s .current ≡ full (s .n) → ⊥) → reachOf s ≡ s .current → Reached (afterMove s)
   moved-reached ne e = record {
     over = h .over;
     consistent = h .consistent;

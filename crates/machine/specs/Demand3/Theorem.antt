@@ -23,8 +23,8 @@ use Rattle.implication.specs.Closure.{implication, closure, follows}
 use Rattle.implication.specs.Closure.Laws.{closure-least, follows-sub, sub-follows}
 use Rattle.context.specs.Objects.{Object, refutes}
 use Rattle.context.specs.Objects.Laws.{spares, not-refutes, consistent-apart}
-use Rattle.context.specs.Reach.{reach}
-use Rattle.context.specs.Reach.Laws.{reach-great}
+use Rattle.reach.specs.Reach.{reach}
+use Rattle.reach.specs.Reach.Laws.{reach-great}
 use Rattle.context.specs.Tables.{Table, AgreesImplication, AgreesObject}
 use Rattle.context.specs.Tables.Laws.{follows-tables, refutes-extended}
 use Rattle.machine.specs.Checks.{Lent, State, force}

@@ -2,16 +2,16 @@
 use mathlib.Core.Path.{refl}
 use Rattle.attribute_set.specs.Sets.{full, without, inside, meets}
 use Rattle.implication.specs.Closure.{fire, pass, close, closure}
-use Rattle.implication.specs.Next.{nextBelow}
+use Rattle.next_set.specs.Next.{fits, nextBelow}
 use Rattle.context.specs.Places.{lowest, anywhere}
 use Rattle.context.specs.Objects.{has, lacks, refutes, markedTwice, contradicts}
-use Rattle.context.specs.Reach.{cut, narrow, reach}
+use Rattle.reach.specs.Reach.{cut, narrow, reach}
 use Rattle.machine.specs.Checks.{standing, questionStands, firstFailing, badLength, strange, outsideM, sessionChecks, yesChecks, noChecks}
 use Rattle.machine.specs.Machine.{performStep, performed, checksOf, perform, opening}
 use Rattle.machine.specs.Edges.{Edges}
 
 pub edges : Edges
-unfolding full without inside meets fire pass close closure nextBelow lowest anywhere has lacks refutes markedTwice contradicts cut narrow reach standing questionStands firstFailing badLength strange outsideM sessionChecks yesChecks noChecks performStep performed checksOf perform opening
+unfolding full without inside meets fire pass close closure fits nextBelow lowest anywhere has lacks refutes markedTwice contradicts cut narrow reach standing questionStands firstFailing badLength strange outsideM sessionChecks yesChecks noChecks performStep performed checksOf perform opening
 edges = record {
   most-attributes = refl;
   too-many-attributes = refl;
@@ -29,11 +29,24 @@ edges = record {
   no-place-for-a-rule = refl;
   last-place-for-a-rule = refl;
   too-many-rules = refl;
+  four-row = refl;
+  four-rule = refl;
+  four-current = refl;
+  four-asked = refl;
   five = refl;
   six = refl;
   five-before-six = refl;
+  seven = refl;
+  seven-list = refl;
+  eight-yes = refl;
+  eight-no = refl;
+  nine-outside = refl;
+  nine-twice = refl;
+  ten-premise = refl;
+  ten-conclusion = refl;
   eleven = refl;
   eleven-before-twelve = refl;
   no-contradicts = refl;
+  last-place-for-a-row = refl;
   no-place-for-a-row = refl;
 }

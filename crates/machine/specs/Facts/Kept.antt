@@ -4,10 +4,10 @@
 -- where a question stands (`asked-stands`, `stands-asked`). At the opening, 7 and the list's part of 3 and 4 cannot fail (`opening-closed`,
 -- `opening-list`).
 use mathlib.Core.Path.{_≡_, refl, sym, ap, _∙_, subst}
-use mathlib.Core.Bool.{Bool, true, false, not, _||_}
+use mathlib.Core.Bool.{Bool, true, false}
 use mathlib.Core.List.{List, [], _∷_, _++_, List·Memᴰ·head, List·Memᴰ·tail, append-nil}
 use mathlib.Core.Option.{Option, none, some, Option·some-ne-none}
-use Prim.Native.Nat.{ℕ, suc, _/_, _≤_, _<_}
+use Prim.Native.Nat.{ℕ, _/_, _≤_}
 use native.Mathlib.Omega.{arith}
 use lib.ListN.{length, length-append}
 use lib.Dec.{ltb}
@@ -25,12 +25,12 @@ use Rattle.context.specs.Objects.{Object, firstRefuting}
 use Rattle.context.specs.Objects.Laws.{contradicts-apart}
 use Rattle.session.specs.declared.Refusal.{Refusal}
 use Rattle.session.specs.Refusals.{refusal}
-use Rattle.machine.specs.Checks.{mostAttributes, mostObjects, mostImplications, Lent, State, Check, firstFailing, strangeObject, strangeImplication, outsideM, sessionChecks, yesChecks, noChecks, force, reachOf, question}
+use Rattle.machine.specs.Checks.{mostAttributes, mostObjects, mostImplications, Lent, State, Check, firstFailing, strangeObject, strangeImplication, outsideM, sessionChecks, yesChecks, noChecks, force, question}
 use Rattle.machine.specs.Checks.Laws.{or-false, passed, none-failing, failing-here, failing-later, failing-append, passed-append, InM, familiar-implication, Stands}
-use Rattle.machine.specs.Machine.{Call, step, accept, reject, follow, refute, Answer, finished, moved, asked, taken, followed, refuted, unrefuted, refused, refutedAt, turn, moveTo, afterYes, afterNo, performStep, performed, checksOf, perform, run, opening, opened, openingState}
+use Rattle.machine.specs.Machine.{Call, step, accept, reject, follow, refute, Answer, finished, moved, asked, taken, followed, refuted, unrefuted, refused, refutedAt, afterYes, afterNo, performStep, performed, checksOf, perform, run, opening, opened, openingState}
 use Rattle.machine.specs.Machine.Laws.{perform-cases, perform-accepted, step-cases, opened-is, finished-full}
-use Rattle.machine.specs.Demand3.Invariant.{Reached, current-in, moved-reached, yes-reached, no-reached, perform-reached, opened-reached}
-use Rattle.machine.specs.Facts.{Places, Fine, YesFits, NoFits}
+use Rattle.machine.specs.Demand3.Invariant.{Reached, current-in, perform-reached, opened-reached}
+use Rattle.machine.specs.Facts.{Places, Fine}
 use Rattle.machine.specs.Facts.Laws.{checks-fine, fine-checks, checks-yes, checks-no}
 
 -- ---- the calls keep it

@@ -1,14 +1,14 @@
 -- The checks both ways: checks 1 to 7 pass just where `Fine` holds and the rule asked about is over M (`checks-fine`, `fine-checks`);
 -- those of a yes just where `YesFits` holds (`checks-yes`, `yes-checks`), those of a no just where `NoFits` does (`checks-no`,
 -- `no-checks`). So a reply is taken just where both hold (`yes-taken`, `taken-yes`, `no-taken`, `taken-no`).
-use mathlib.Core.Path.{_≡_, refl, sym, ap, _∙_}
+use mathlib.Core.Path.{_≡_, refl, ap, _∙_}
 use mathlib.Core.Bool.{Bool, true, false, not, _||_}
-use mathlib.Core.List.{List, [], _++_, append-nil}
-use mathlib.Core.Option.{none, some}
-use Prim.Native.Nat.{ℕ, _*_, _/_, _%_, _≤_}
+use mathlib.Core.List.{List, [], _++_}
+use mathlib.Core.Option.{none}
+use Prim.Native.Nat.{ℕ, _/_, _%_}
 use native.Mathlib.Omega.{arith}
 use lib.ListN.{length}
-use lib.Dec.{eqb, ltb, leb}
+use lib.Dec.{eqb, ltb}
 use borrow.Author.Tests.{eqb-true, eqb-false, eq-eqb, not-false, ltb-false, le-ltb, leb-false, lt-leb, ne-eqb}
 use Rattle.theory.specs.Lists.{All}
 use Rattle.theory.specs.Lists.Laws.{all-nil, all-append, all-drop}
@@ -16,15 +16,14 @@ use Rattle.theory.specs.Implications.{Implication, Over}
 use Rattle.attribute_set.specs.Sets.{inside, full}
 use Rattle.attribute_set.specs.Sets.Laws.{sub-inside}
 use Rattle.attribute_set.specs.Words.{words}
-use Rattle.implication.specs.Closure.{closure}
 use Rattle.context.specs.Places.{anywhere}
 use Rattle.context.specs.Places.Laws.{anywhere-false, all-anywhere}
-use Rattle.context.specs.Objects.{Object, refutes, markedTwice, contradicts}
+use Rattle.context.specs.Objects.{Object}
 use Rattle.context.specs.Objects.Laws.{marked-apart, apart-marked, contradicts-apart, apart-contradicts}
 use Rattle.session.specs.declared.Refusal.{Refusal}
-use Rattle.machine.specs.Checks.{mostAttributes, mostObjects, mostImplications, State, firstFailing, badLength, strange, strangeObject, strangeImplication, outsideM, sessionChecks, yesChecks, noChecks, force, question, questionStands, withQuestion, whole, tight, open-question, standing}
-use Rattle.machine.specs.Checks.Laws.{or-false, passed, none-failing, failing-append, passed-append, InM, Valid, valid, familiar-object, familiar-implication, standing-cases, Stands, stands}
-use Rattle.machine.specs.Machine.{Call, accept, reject, Answer, taken, refused, turn, performed, checksOf, perform}
+use Rattle.machine.specs.Checks.{mostObjects, mostImplications, State, firstFailing, badLength, strange, strangeObject, strangeImplication, outsideM, sessionChecks, yesChecks, noChecks, force, questionStands, withQuestion, whole, tight, open-question}
+use Rattle.machine.specs.Checks.Laws.{or-false, passed, none-failing, failing-append, passed-append, InM, valid, familiar-object, familiar-implication, standing-cases, Stands, stands}
+use Rattle.machine.specs.Machine.{Call, accept, reject, taken, refused, performed, checksOf, perform}
 use Rattle.machine.specs.Machine.Laws.{perform-cases, perform-accepted}
 use Rattle.machine.specs.Facts.{Places, Fine, YesFits, NoFits}
 
@@ -102,7 +101,8 @@ module _ (s : State) (asked : List (Implication ℕ)) where
 
 -- ---- the checks of a reply
 
-standing-question : (s : State) → Stands s → not (questionStands s) ≡ false
+-- where a question stands check 8 passes
+pub standing-question : (s : State) → Stands s → not (questionStands s) ≡ false
 unfolding questionStands
 standing-question s t =
     standing-cases s (λ x. not (elim x as (λ y. Bool) [ whole ↦ false | tight ↦ false | open-question ↦ true ]) ≡ false)

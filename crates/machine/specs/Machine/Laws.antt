@@ -6,12 +6,11 @@ use Prim.Native.Nat.{ℕ}
 use native.Mathlib.Omega.{arith}
 use Rattle.theory.specs.Implications.{Implication}
 use Rattle.attribute_set.specs.Sets.{full}
-use Rattle.implication.specs.Next.{next}
 use Rattle.context.specs.Objects.{Object}
 use Rattle.session.specs.declared.Refusal.{Refusal}
-use Rattle.machine.specs.Checks.{Lent, State, firstFailing, sessionChecks, force, reachOf, whole, tight, open-question, question}
+use Rattle.machine.specs.Checks.{Lent, State, firstFailing, sessionChecks, reachOf, whole, tight, open-question, question}
 use Rattle.machine.specs.Checks.Laws.{standing-cases}
-use Rattle.machine.specs.Machine.{Call, step, finished, moved, asked, refused, Turn, turn, moveTo, performStep, performed, checksOf, perform, Opening, opened, rejected, opening, openingState}
+use Rattle.machine.specs.Machine.{Call, step, finished, moved, asked, refused, Turn, turn, afterMove, performStep, performed, checksOf, perform, Opening, opened, rejected, opening, openingState}
 
 module _ (s : State) (c : Call) where
   pub perform-cases : (P : Turn → Type 0) → (firstFailing (checksOf s c) ≡ none → P (performed s c))
@@ -43,13 +42,13 @@ not-finished-refused r e = let z : _≡_ {A = ℕ} 0 1 = cc in omega arith
 
 module _ (s : State) where
   pub step-cases : (P : Turn → Type 0) → (s .current ≡ full (s .n) → P (turn finished s))
-      → ((s .current ≡ full (s .n) → ⊥) → reachOf s ≡ s .current → P (turn moved (moveTo s (next (force s) (s .n) (s .current)))))
+      → ((s .current ≡ full (s .n) → ⊥) → reachOf s ≡ s .current → P (turn moved (afterMove s)))
       → ((s .current ≡ full (s .n) → ⊥) → (reachOf s ≡ s .current → ⊥) → P (turn (asked (question s)) s)) → P (performStep s)
   unfolding performStep
   step-cases P done moves asks =
       standing-cases s (λ x. P (elim x as (λ y. Turn) [
         | whole ↦ turn finished s
-        | tight ↦ turn moved (moveTo s (next (force s) (s .n) (s .current)))
+        | tight ↦ turn moved (afterMove s)
         | open-question ↦ turn (asked (question s)) s
       ])) done moves asks
 

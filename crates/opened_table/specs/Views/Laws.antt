@@ -11,8 +11,9 @@ use borrow.Author.Tests.{le-ltb}
 use denote.Ref.{RefT, now}
 use Rattle.session.specs.declared.Refusal.{Refusal}
 use Rattle.coded_calls.specs.declared.Answer.{Answer as Coded}
-use Rattle.table_layout.specs.Layout.{openedOf, finds}
-use Rattle.table_layout.specs.Layout.Same.{finds-table}
+use Rattle.table_layout.specs.Layout.{openedOf}
+use Rattle.found_layout.specs.Found.{finds}
+use Rattle.found_layout.specs.Found.Laws.{finds-table}
 use Rattle.table_layout.specs.declared.Layout.{Layout}
 use Rattle.table_layout.specs.declared.Opened.{Opened}
 use Rattle.table_layout.specs.declared.Opened.the-variants.{Found, Refused}

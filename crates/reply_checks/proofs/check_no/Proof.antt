@@ -4,12 +4,14 @@ use mathlib.Core.List.{List, []}
 use mathlib.Core.Option.{none}
 use lib.ListN.{drop}
 use borrow.Author.Needs.{needs}
+use Rattle.implication.specs.Closure.{implication}
 use Rattle.context.specs.Objects.{object}
 use Rattle.machine.specs.Checks.{State, Check, firstFailing, sessionChecks, noChecks}
 use Rattle.machine.specs.Checks.Laws.{checked-small}
 use Rattle.machine.specs.Machine.{Call, reject}
 use Rattle.machine.specs.Calls.{stateOf}
-use Rattle.session_checks.specs.Verdicts.{verdictOf}
+use Rattle.size_checks.specs.Verdicts.{verdictOf}
+use Rattle.reply_checks.specs.declared.Question.{Question}
 use Rattle.reply_checks.specs.declared.Standing.{Standing}
 use Rattle.reply_checks.specs.Outcomes.{questionOf, askingAfter, asking}
 use Rattle.reply_checks.specs.Outcomes.Laws.{askingFrom, found-question, no-found}
@@ -43,12 +45,10 @@ question-found : (c : tie.After-known-told)
 question-found c = found-question (state (opened c)) _ (sym (c .before .standing .given .1) ∙ opened c .find-standing .ensures)
 
 behind-decided : (c : tie.After-check-row) → verdictOf (c .check-row .result) ≡ firstFailing (behind (opened (c .before)))
-behind-decided c = c .check-row .ensures
-
-check-row-requires : tie.Need-check-row-requires
-check-row-requires c κs =
-    let q = question-found c in
-    (checked-small (state (opened c)) [] (q .1) .0, q .0)
+behind-decided c =
+    let q = question-found (c .before) in
+    c .check-row .ensures (checked-small (state (opened (c .before))) [] (q .1) .0)
+    (ap (λ (x : Question). implication (x .premise) (x .conclusion)) (q .0))
 
 returns : tie.Need-returns
 returns c =
@@ -70,7 +70,7 @@ check-no-spec =
     (tie.spec
     (λ c κs. search needs)
     (λ c. search needs)
-    check-row-requires
+    (λ c κs. search needs)
     (λ c κs. search needs)
     (λ c. search needs)
     (λ c. search needs)

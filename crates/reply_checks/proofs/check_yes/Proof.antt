@@ -4,10 +4,12 @@ use mathlib.Core.List.{List, []}
 use mathlib.Core.Option.{none}
 use lib.ListN.{drop}
 use borrow.Author.Needs.{needs}
+use Rattle.implication.specs.Closure.{implication}
 use Rattle.machine.specs.Checks.{State, Check, firstFailing, sessionChecks, yesChecks}
 use Rattle.machine.specs.Machine.{Call, accept}
 use Rattle.machine.specs.Calls.{stateOf}
-use Rattle.session_checks.specs.Verdicts.{verdictOf}
+use Rattle.size_checks.specs.Verdicts.{verdictOf}
+use Rattle.reply_checks.specs.declared.Question.{Question}
 use Rattle.reply_checks.specs.declared.Standing.{Standing}
 use Rattle.reply_checks.specs.Outcomes.{questionOf, askingAfter, asking}
 use Rattle.reply_checks.specs.Outcomes.Laws.{askingFrom, found-question, yes-found}
@@ -41,10 +43,8 @@ question-found : (c : tie.After-known-told)
 question-found c = found-question (state (opened c)) _ (sym (c .before .standing .given .1) ∙ opened c .find-standing .ensures)
 
 behind-decided : (c : tie.After-check-rule) → verdictOf (c .check-rule .result) ≡ firstFailing (behind (opened (c .before)))
-behind-decided c = c .check-rule .ensures
-
-check-rule-requires : tie.Need-check-rule-requires
-check-rule-requires c κs = question-found c .0
+behind-decided c =
+    c .check-rule .ensures (ap (λ (q : Question). implication (q .premise) (q .conclusion)) (question-found (c .before) .0))
 
 returns : tie.Need-returns
 returns c =
@@ -66,7 +66,7 @@ check-yes-spec =
     (tie.spec
     (λ c κs. search needs)
     (λ c. search needs)
-    check-rule-requires
+    (λ c κs. search needs)
     (λ c κs. search needs)
     (λ c. search needs)
     (λ c. search needs)

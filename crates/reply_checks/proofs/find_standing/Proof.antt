@@ -7,11 +7,11 @@ use native.Mathlib.Omega.{arith}
 use borrow.Author.Needs.{needs}
 use Rattle.session.specs.declared.Refusal.{Refusal}
 use Rattle.attribute_set.specs.Sets.{full, without}
-use Rattle.context.specs.Reach.{reach}
+use Rattle.reach.specs.Reach.{reach}
 use Rattle.machine.specs.Checks.{State, firstFailing, sessionChecks, reachOf, force}
 use Rattle.machine.specs.Checks.Laws.{unasked, checked-small}
 use Rattle.machine.specs.Calls.{stateOf}
-use Rattle.session_checks.specs.Verdicts.{verdictOf}
+use Rattle.size_checks.specs.Verdicts.{verdictOf}
 use Rattle.reply_checks.specs.Outcomes.Laws.{found-refused, found-full, found-tight, found-open}
 use Rattle.reply_checks.proofs.find_standing.Statement.{statement}
 use Rattle.reply_checks.proofs.find_standing.Tie as tie

@@ -4,8 +4,8 @@ use mathlib.Core.Logic.{inl, inr}
 use mathlib.Core.Bool.{true≢false}
 use borrow.Author.Needs.{needs}
 use Rattle.machine.specs.Calls.{openingFrom}
-use Rattle.session_calls.specs.declared.Opened.{Opened}
-use Rattle.session_calls.specs.Answers.{openingOf}
+use Rattle.session_opening.specs.declared.Opened.{Opened}
+use Rattle.session_opening.specs.Opening.{openingOf}
 use Rattle.saved_interview.specs.TakingUp.Theorem.{held, all-made, none-made}
 use Rattle.saved_interview.proofs.open_and_replay.Statement.{statement}
 use Rattle.saved_interview.proofs.open_and_replay.Tie as tie

@@ -34,6 +34,7 @@ module _ {n : ℕ} {background : List ℕ} (i : Interview n background) where
   pub demand-3-whole : Demand3Whole i
   demand-3-whole = record {
     simulated = ends;
+    same-n = ap (λ (s : State). s .n) ends ∙ machine .same-n;
     answered = i .made .answers;
     rows-past = i .made .rows;
     list-past = i .made .list;

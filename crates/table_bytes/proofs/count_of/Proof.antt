@@ -12,9 +12,6 @@ use Rattle.table_bytes.proofs.count_of.Tie as tie
 count : (c : tie.Else1) → isCount (c .before .before .before .args .line .now) ≡ true
 count c = sym (c .before .is-count .ensures) ∙ not-false _ (c .if1 .left)
 
-is-count-requires : tie.Need-is-count-requires
-is-count-requires c κs = search needs
-
 returns : tie.Need-returns
 unfolding countOf
 returns c = rw (sym (c .before .is-count .ensures) ∙ not-true _ (c .if1 .taken), countOf)
@@ -27,4 +24,4 @@ unfolding countOf
 returns-2 c = rw (count (c .before), countOf) (c .decimal .ensures)
 
 pub count-of-spec : {M : Type 1} → statement M
-count-of-spec = tie.close (tie.spec is-count-requires returns decimal-requires returns-2)
+count-of-spec = tie.close (tie.spec (λ c κs. search needs) returns decimal-requires returns-2)

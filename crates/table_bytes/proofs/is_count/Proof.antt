@@ -1,6 +1,6 @@
 -- The tests are those of a count.
 use mathlib.Core.Bool.{and-false}
-use Prim.Native.Nat.{_<_}
+use Prim.Native.Nat.{_≤_, _<_}
 use native.Mathlib.Omega.{arith}
 use lib.ListN.{length}
 use borrow.Author.Needs.{needs}
@@ -15,17 +15,18 @@ returns c = rw (c .if1 .taken)
 
 returns-2 : tie.Need-returns-2
 unfolding isCount
-returns-2 c = rw (lt-leb _ _ (c .if2 .taken), and-false)
-
-all-pass-requires : tie.Need-all-pass-requires
-all-pass-requires c κs = search needs
+returns-2 c =
+    let line = c .before .before .before .args .line .now in
+    let h : 4 < length line = omega arith in
+    rw (lt-leb _ _ h, and-false)
 
 returns-3 : tie.Need-returns-3
 unfolding isCount
 returns-3 c =
     let line = c .before .before .before .before .args .line .now in
     let h : 0 < length line = omega arith in
-    rw (lt-ltb _ _ h, le-leb _ _ (c .before .if2 .left)) (c .all-pass .ensures)
+    let i : length line ≤ 4 = omega arith in
+    rw (lt-ltb _ _ h, le-leb _ _ i) (c .all-pass .ensures)
 
 pub is-count-spec : {M : Type 1} → statement M
-is-count-spec = tie.close (tie.spec returns returns-2 all-pass-requires returns-3)
+is-count-spec = tie.close (tie.spec returns returns-2 (λ c κs. search needs) returns-3)

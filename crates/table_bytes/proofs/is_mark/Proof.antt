@@ -4,22 +4,13 @@ use borrow.Author.Needs.{needs}
 use Rattle.table_bytes.proofs.is_mark.Statement.{statement}
 use Rattle.table_bytes.proofs.is_mark.Tie as tie
 
-is-yes-requires : tie.Need-is-yes-requires
-is-yes-requires c κs = search needs
-
 returns : tie.Need-returns
 returns c = rw (sym (c .before .is-yes .ensures) ∙ c .if1 .taken)
-
-is-no-requires : tie.Need-is-no-requires
-is-no-requires c κs = search needs
 
 returns-2 : tie.Need-returns-2
 returns-2 c =
     let d = c .before .before in
     rw (sym (d .before .is-yes .ensures) ∙ d .if1 .left, sym (c .before .is-no .ensures) ∙ c .if2 .taken)
-
-is-unknown-requires : tie.Need-is-unknown-requires
-is-unknown-requires c κs = search needs
 
 returns-3 : tie.Need-returns-3
 returns-3 c =
@@ -31,4 +22,4 @@ returns-3 c =
 pub is-mark-spec : {M : Type 1} → statement M
 is-mark-spec =
     tie.close
-    (tie.spec is-yes-requires returns is-no-requires returns-2 is-unknown-requires returns-3)
+    (tie.spec (λ c κs. search needs) returns (λ c κs. search needs) returns-2 (λ c κs. search needs) returns-3)

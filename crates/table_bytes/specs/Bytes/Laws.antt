@@ -1,7 +1,8 @@
--- Laws of the bytes of a line, along an index: a test of all of them, and the number that digits make.
+-- The marks and counts of 01 as computed cases. Laws of the bytes of a line, along an index: a test of all of them, and the number
+-- that digits make.
 use mathlib.Core.Path.{_≡_, refl, ap, _∙_}
-use mathlib.Core.Bool.{Bool, true, false, _&&_, and-eq-true-iff}
-use mathlib.Core.List.{List, _∷_}
+use mathlib.Core.Bool.{Bool, true, false, _&&_, _||_, and-eq-true-iff}
+use mathlib.Core.List.{List, [], _∷_}
 use Prim.Native.Nat.{ℕ, _+_, _-_, _*_, _^_, _≤_, _<_}
 use native.Mathlib.Numerals.{add-one}
 use native.Mathlib.Nat.{pow-suc, pow-le-pow-right}
@@ -10,7 +11,24 @@ use borrow.Author.Tests.{leb-true}
 use lib.Dec.{ltb, leb}
 use lib.ListN.{length, getD, drop, drop-of-length-le}
 use lib.Seq.{drop-cons}
-use Rattle.table_bytes.specs.Bytes.{isDigit, everywhere, decimalFrom, isCount}
+use Rattle.table_bytes.specs.Bytes.{isDigit, isYes, isNo, isMark, everywhere, decimalFrom, isCount, countOf}
+
+-- 01's marks, computed: `X`, `x`, `.`, `?`, and a space, which is none
+marks : (isYes 88 && isYes 120 ≡ true)
+    × (isNo 46 ≡ true)
+    × (isYes 63 || isNo 63 ≡ false)
+    × (isMark 63 ≡ true)
+    × (isMark 32 ≡ false)
+marks = (refl, refl, refl, refl, refl)
+
+-- 01's counts, computed: `7` and `0007` are 7; five digits, none and a sign are no count
+counts : (countOf (55 ∷ []) ≡ 7)
+    × (countOf (48 ∷ 48 ∷ 48 ∷ 55 ∷ []) ≡ 7)
+    × (isCount (48 ∷ 48 ∷ 48 ∷ 48 ∷ 55 ∷ []) ≡ false)
+    × (isCount [] ≡ false)
+    × (isCount (43 ∷ 55 ∷ []) ≡ false)
+unfolding everywhere decimalFrom isCount countOf
+counts = (refl, refl, refl, refl, refl)
 
 -- the first byte and the others
 pub everywhere-cons : (f : ℕ → Bool) (b : ℕ) (bs : List ℕ) → everywhere f (b ∷ bs) ≡ (f b && everywhere f bs)

@@ -7,7 +7,7 @@ use lib.Dec.{lit≤}
 use Rattle.machine.specs.Checks.{mostObjects, mostImplications}
 use Rattle.interview_replies.specs.Places.{lentOf, placesFor, ReadComplete}
 use Rattle.interview_replies.specs.Places.Laws.{table-read, read-holds, words-taken, places-taken}
-use Rattle.table_interview.specs.Run.Laws.{room-counted, room-holds, output-written, table-written}
+use Rattle.table_interview.specs.Run.Laws.{room-holds, output-written, table-written}
 use borrow.Author.Needs.{needs}
 use Rattle.table_interview.proofs.hold.Statement.{statement}
 use Rattle.table_interview.proofs.hold.Tie as tie
@@ -67,17 +67,12 @@ slice-aggregate-interview-table-3 c =
     let k = counted (read (found (c .before .before) .before .before)) in
     sym (words-taken (start k .args .rule-places) mostImplications (k .smaller2 .result) list-words (k .smaller2 .ensures) (lit≤ tt))
 
-write-refusal-requires : tie.Need-write-refusal-requires
-write-refusal-requires c κs = room-counted _ (c .write-refusal-arg .given .0 .1)
-
 interview-table-requires : tie.Need-interview-table-requires
 interview-table-requires c κs =
     let d = found (lists c) in
     let r = read (d .before .before) in
-    let called = r .read-complete in (
-      read-holds (start (counted r) .args .file .now) (called .last .1 .0) _ (called .result) (reads r) (d .opened2 .given .1) (d .before .before .table2 .given),
-      room-counted _ (c .interview-table-arg .given .0 .1),
-    )
+    let called = r .read-complete in
+    read-holds (start (counted r) .args .file .now) (called .last .1 .0) _ (called .result) (reads r) (d .opened2 .given .1) (d .before .before .table2 .given)
 
 returns : tie.Need-returns
 returns c =
@@ -111,7 +106,7 @@ hold-spec =
     (λ c. search needs)
     (λ c κs. search needs)
     (λ c. search needs)
-    write-refusal-requires
+    (λ c κs. search needs)
     (λ c. search needs)
     (λ c. search needs)
     (λ c. search needs)

@@ -4,8 +4,8 @@ use mathlib.Core.List.{[]}
 use lib.ListN.{length}
 use Rattle.context.specs.Objects.{objectsOf}
 use Rattle.machine.specs.Machine.{Opening, opening}
-use Rattle.session_calls.specs.Answers.{openingOf}
-use Rattle.session_calls.specs.declared.Opened.{Opened}
+use Rattle.session_opening.specs.Opening.{openingOf}
+use Rattle.session_opening.specs.declared.Opened.{Opened}
 use Rattle.text.specs.Page.{Page, page, text}
 use Rattle.transcript.specs.Output.{interviewed}
 use Rattle.transcript.specs.Core.Kept.{opened-along}
@@ -55,9 +55,9 @@ run-beats-requires c κs =
     let d = accepted c in
     let s = start (d .before .before) in
     let a = s .args in (
-      opened-along (objectsOf (a .objects) (a .table .now)) (a .n) (lentOf (length (a .rows .now)) (length (a .list .now))) _ (s .pre .0 .complete)
+      opened-along (objectsOf (a .objects) (a .table .now)) (a .n) (lentOf (length (a .rows .now)) (length (a .list .now))) _ (s .pre .complete)
           (sym (found (d .before .before) _ (d .opened2 .given .1))),
-      (s .pre .0 .in-table, s .pre .1),
+      s .pre .in-table,
     )
 
 returns : tie.Need-returns

@@ -7,8 +7,8 @@ use lib.ListN.{length}
 use Rattle.context.specs.Objects.{Object, objectsOf}
 use Rattle.transcript.specs.Output.Ends.{measure}
 use Rattle.interview_replies.specs.Holding.{holding}
-use Rattle.table_interview.specs.Run.{mostCounted, Hands}
-use Rattle.table_interview.specs.Run.Handing.{hands-none, hands-on, hands-fit}
+use Rattle.handed_output.specs.Handing.{Hands}
+use Rattle.handed_output.specs.Handing.Laws.{hands-none, hands-on}
 use Rattle.interview_beat.specs.Running.{remaining, Running, Turned, along-fits, running-start, turned}
 use borrow.Author.Needs.{needs}
 use Rattle.table_interview.proofs.run_beats.Statement.{statement}
@@ -19,28 +19,32 @@ Inv-loop table objects rows₀ list₀ out₀ fd interview₀ at₀ handed₀ ro
     let os = objectsOf objects table in
     Running os (remaining os (holding interview₀ rows₀ list₀) (interview₀ .changes)) out₀ interview rows list out at
     × (length rows ≡ length rows₀) × (length list ≡ length list₀) × (length out ≡ length out₀)
-    × Hands handed₀ at handed
+    × Hands at handed
 
 abbrev μ-loop : tie.MeasureT-loop
 μ-loop table objects rows₀ list₀ out₀ fd interview₀ at₀ handed₀ rows list out interview at handed = measure (holding interview rows list)
 
--- the places: the start; a turn of the loop, and its beat; the lent words and the buffer behind it
+-- the places: behind the call that says nothing is handed over yet, and the start; a turn of the loop, and its beat; the lent words
+-- and the buffer behind it
+abbrev begun : tie.After-nothing-handed Inv-loop μ-loop → tie.Start Inv-loop μ-loop
+begun c = let known = c .before .before in known .before .before .before
+
 abbrev start : tie.At-loop Inv-loop μ-loop → tie.Start Inv-loop μ-loop
-start c = let known = c .before .before in known .before .before .before
+start c = begun (c .before)
 
 abbrev turn : tie.After-advance Inv-loop μ-loop → tie.At-loop Inv-loop μ-loop
 turn c = c .before .before .before .before
 
-abbrev out-left : tie.After-show-arg Inv-loop μ-loop → tie.After-out Inv-loop μ-loop
+abbrev out-left : tie.After-hand-over-arg Inv-loop μ-loop → tie.After-out Inv-loop μ-loop
 out-left c = c .before .before
 
-abbrev list-left : tie.After-show-arg Inv-loop μ-loop → tie.After-list Inv-loop μ-loop
+abbrev list-left : tie.After-hand-over-arg Inv-loop μ-loop → tie.After-list Inv-loop μ-loop
 list-left c = out-left c .before .before
 
-abbrev rows-left : tie.After-show-arg Inv-loop μ-loop → tie.After-rows Inv-loop μ-loop
+abbrev rows-left : tie.After-hand-over-arg Inv-loop μ-loop → tie.After-rows Inv-loop μ-loop
 rows-left c = list-left c .before .before
 
-abbrev beaten : tie.After-show-arg Inv-loop μ-loop → tie.After-advance Inv-loop μ-loop
+abbrev beaten : tie.After-hand-over-arg Inv-loop μ-loop → tie.After-advance Inv-loop μ-loop
 beaten c = rows-left c .before
 
 -- the rows of the table, and all that is to be written
@@ -63,30 +67,23 @@ comes c =
     let called = c .advance in
     turned (os s) (whole s) (s .args .out .now) (l .interview) (l .rows) (l .list) (l .out) (l .at) (l .inv .0)
     (called .result) (called .last .1 .1 .0) (called .last .1 .1 .1 .0) (called .last .1 .1 .1 .1 .1 .0)
-    (called .ensures (along-fits (s .args .objects) (s .args .table .now) (l .interview) (l .rows) (l .list) (l .inv .0 .along) (s .pre .1 .0)))
+    (called .ensures (along-fits (s .args .objects) (s .args .table .now) (l .interview) (l .rows) (l .list) (l .inv .0 .along) (s .pre .1)))
 
 loop-holds : tie.Need-loop-holds Inv-loop μ-loop
 loop-holds c =
-    let s = c .before .before .before .before in
+    let s = begun c in
     let a = s .args in
-    (running-start (a .objects) (a .table .now) (a .start) (a .rows .now) (a .list .now) (s .pre .0) (a .out .now), refl, refl, refl, hands-none (a .before))
-
-show-requires : tie.Need-show-requires Inv-loop μ-loop
-show-requires c κs =
-    let b = beaten c in
-    let l = turn b .loop in
-    let s = start (turn b) in
-    let w = comes b .within in
-    let in-buffer : b .advance .result .at ≤ length (s .args .out .now) = omega (arith, w .1, out-left c .out .given, l .inv .3) in
-    (w, hands-fit (s .args .before) (l .handed) (l .at) (b .advance .result .at) (length (s .args .out .now)) mostCounted (w .0) in-buffer (s .pre .1 .1) (l .inv .4))
+    let none = c .nothing-handed in
+    (running-start (a .objects) (a .table .now) (a .start) (a .rows .now) (a .list .now) (s .pre .0) (a .out .now), refl, refl, refl, hands-none (none .result) (none .ensures))
 
 -- what was handed over with the beat's line
-hands : (c : tie.After-show Inv-loop μ-loop)
-    → let b = beaten (c .before) in Hands (start (turn b) .args .before) (b .advance .result .at) (c .show .result)
+hands : (c : tie.After-hand-over Inv-loop μ-loop)
+    → Hands (beaten (c .before) .advance .result .at) (c .hand-over .result)
 hands c =
     let b = beaten (c .before) in
     let l = turn b .loop in
-    hands-on (start (turn b) .args .before) (l .handed) (c .show .result) (l .at) (b .advance .result .at) (comes b .within .0) (l .inv .4) (c .show .ensures)
+    let w = comes b .within in
+    hands-on (l .handed) (c .hand-over .result) (l .at) (b .advance .result .at) _ (w .0) (w .1) (l .inv .4) (c .hand-over .ensures)
 
 returns : tie.Need-returns Inv-loop μ-loop
 returns c = (comes (beaten (c .before .before)) .all (c .if1 .taken), hands (c .before))
@@ -107,9 +104,10 @@ run-beats-spec =
     (tie.spec
     Inv-loop
     μ-loop
+    (λ c κs. search needs)
     loop-holds
     (λ c κs. search needs)
-    show-requires
+    (λ c κs. search needs)
     (λ c. search needs)
     (λ c. search needs)
     (λ c. search needs)

@@ -8,38 +8,28 @@ use Rattle.context.specs.Objects.{objectsOf}
 use Rattle.machine.specs.Checks.{Lent}
 use Rattle.machine.specs.Machine.{opening}
 use Rattle.table_layout.specs.Layout.{openedOf}
-use Rattle.table_marks.specs.Complete.{completeOf}
+use Rattle.complete_tables.specs.Complete.{completeOf}
 use Rattle.table_layout.specs.declared.Layout.{Layout}
 use Rattle.table_layout.specs.declared.Opened.{Opened}
 use Rattle.table_layout.specs.declared.Opened.the-variants.{Found}
 use Rattle.text.specs.Page.{Page, page, text}
-use Rattle.text.specs.Page.Laws.{text-at, text-fits, text-inside, text-length}
+use Rattle.text.specs.Page.Laws.{text-at, text-fits}
 use Rattle.transcript.specs.Output.{interviewed, tableOf, written, outputWith, inputMost, outputMost, output}
 use Rattle.transcript.specs.Output.Longer.{output-first}
 use Rattle.transcript.specs.Core.Program.{output-size}
 use Rattle.interview_replies.specs.Places.{ReadComplete}
-use Rattle.table_interview.specs.declared.Told.{Told}
-use Rattle.table_interview.specs.Run.{mostCounted, Hands, untold, WritesIn, AnswersIn}
+use Rattle.handed_output.specs.Handing.{Hands}
+use Rattle.handed_output.specs.declared.Told.{Told}
+use Rattle.table_interview.specs.Run.{WritesIn, AnswersIn}
 
--- the buffer for an output: its bytes can be counted, and it holds every output
-module _ (size : ℕ) (e : size ≡ outputMost) where
-  pub room-counted : 0 + size ≤ mostCounted
-  room-counted = omega (arith, e)
-
-  pub room-holds : outputMost ≤ size
-  room-holds = omega (arith, e)
+-- the buffer for an output holds every output
+pub room-holds : (size : ℕ) → size ≡ outputMost → outputMost ≤ size
+room-holds size e = omega (arith, e)
 
 -- what a file gives, by what is found in it
 found-output : (lent : Lent) (file : List ℕ) (x : Opened) → x ≡ completeOf file (openedOf file) → written lent file x ≡ outputWith lent file
 unfolding outputWith
 found-output lent file x e = ap (written lent file) e
-
--- a text that was written from the start of the buffer lies in it
-pub text-shown : (out out′ : List ℕ) (r : ℕ) (bs : List ℕ) → page out′ r ≡ text (page out 0) bs → (r ≤ length out) × (r ≤ length out′)
-text-shown out out′ r bs e =
-    let w = text-inside (page out 0) bs (omega arith) in
-    let at = ap (λ (p : Page). p .at) e in
-    (omega (arith, w .1, at), omega (arith, w .1, at, ap (λ (p : Page). length (p .bytes)) e ∙ text-length (page out 0) bs))
 
 -- one that fits stands there whole, and the offset behind it is its length
 text-end-at : (out out′ : List ℕ) (r : ℕ) (bs : List ℕ) → page out′ r ≡ text (page out 0) bs → length bs ≤ length out → r ≡ length bs
@@ -52,7 +42,7 @@ text-whole out out′ r bs e h =
 
 -- what is written is the file's output, and fits where the buffer holds every output
 pub output-written : (lent : Lent) (file out out′ : List ℕ) (r : Told) (x : Opened) → x ≡ completeOf file (openedOf file)
-    → (page out′ (r .end) ≡ text (page out 0) (written lent file x)) × Hands untold (r .end) (r .handed)
+    → (page out′ (r .end) ≡ text (page out 0) (written lent file x)) × Hands (r .end) (r .handed)
     → outputMost ≤ length out → WritesIn out out′ r (outputWith lent file)
 output-written lent file out out′ r x e t h =
     let whole = t .0 ∙ ap (text (page out 0)) (found-output lent file x e) in
@@ -60,7 +50,7 @@ output-written lent file out out′ r x e t h =
     record {
       put = whole;
       written = text-whole out out′ (r .end) (outputWith lent file) whole fits;
-      handed = subst (λ (k : ℕ). Hands untold k (r .handed)) (text-end-at out out′ (r .end) (outputWith lent file) whole fits) (t .1);
+      handed = subst (λ (k : ℕ). Hands k (r .handed)) (text-end-at out out′ (r .end) (outputWith lent file) whole fits) (t .1);
     }
 
 -- an input whose first bytes are in the buffer
@@ -75,7 +65,7 @@ input-answered file before out size r e w = record {
 pub table-written : (lent lent′ : Lent) (file words out out′ : List ℕ) (r : Told) (x : Opened) (l : Layout)
     → ReadComplete file words x → x ≡ Found l → lent ≡ lent′
     → (page out′ (r .end) ≡ text (page out 0) (interviewed (objectsOf (l .objects) words) (opening (l .attributes) lent [] [])))
-    × Hands untold (r .end) (r .handed)
+    × Hands (r .end) (r .handed)
     → outputMost ≤ length out → WritesIn out out′ r (outputWith lent′ file)
 table-written lent lent′ file words out out′ r x l h e p t =
     output-written lent′ file out out′ r (Found l) (sym e ∙ h .answer) (

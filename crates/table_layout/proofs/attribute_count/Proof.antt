@@ -18,15 +18,6 @@ fourth : (c : tie.After-next-at3) → c .next-at3 .result ≡ attributesAt (file
 fourth c =
     c .next-at3 .ensures ∙ ap (after (file c)) (c .before .next-at2 .ensures ∙ ap (after (file c)) (c .before .before .next-at .ensures))
 
-next-at-requires : tie.Need-next-at-requires
-next-at-requires c κs = search needs
-
-next-at-requires-2 : tie.Need-next-at-requires-2
-next-at-requires-2 c κs = search needs
-
-next-at-requires-3 : tie.Need-next-at-requires-3
-next-at-requires-3 c κs = search needs
-
 count-at-requires : tie.Need-count-at-requires
 count-at-requires c κs =
     let f = file c in
@@ -36,4 +27,4 @@ returns : tie.Need-returns
 returns c = c .count-at .ensures ∙ ap (λ n. countOf (bytesAt (file (c .before)) n)) (fourth (c .before))
 
 pub attribute-count-spec : {M : Type 1} → statement M
-attribute-count-spec = tie.close (tie.spec next-at-requires next-at-requires-2 next-at-requires-3 count-at-requires returns)
+attribute-count-spec = tie.close (tie.spec (λ c κs. search needs) (λ c κs. search needs) (λ c κs. search needs) count-at-requires returns)

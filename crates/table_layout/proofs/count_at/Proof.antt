@@ -22,23 +22,11 @@ inside c =
     let s = c .before .before in
     omega (arith, size c, bytes-inside (s .args .file .now) (s .args .at) (s .pre))
 
-line-at-requires : tie.Need-line-at-requires
-line-at-requires c κs = search needs
-
 add-end : tie.Need-add-end
 add-end c = omega (arith, inside (c .before))
 
-sub-count-of : tie.Need-sub-count-of
-sub-count-of c = search needs
-
-part-count-of-start : tie.Need-part-count-of-start
-part-count-of-start c = search needs
-
 part-count-of-end : tie.Need-part-count-of-end
 part-count-of-end c = inside (c .before)
-
-count-of-requires : tie.Need-count-of-requires
-count-of-requires c κs = search needs
 
 returns : tie.Need-returns
 returns c =
@@ -49,4 +37,13 @@ returns c =
     c .count-of .ensures ∙ ap (λ k. countOf (take k (drop (a .at) (a .file .now)))) e
 
 pub count-at-spec : {M : Type 1} → statement M
-count-at-spec = tie.close (tie.spec line-at-requires add-end sub-count-of part-count-of-start part-count-of-end count-of-requires returns)
+count-at-spec =
+    tie.close
+    (tie.spec
+    (λ c κs. search needs)
+    add-end
+    (λ c. search needs)
+    (λ c. search needs)
+    part-count-of-end
+    (λ c κs. search needs)
+    returns)

@@ -17,12 +17,6 @@ file c = c .before .before .before .args .file .now
 third : (c : tie.After-next-at2) → c .next-at2 .result ≡ objectsAt (file c)
 third c = c .next-at2 .ensures ∙ ap (after (file c)) (c .before .next-at .ensures)
 
-next-at-requires : tie.Need-next-at-requires
-next-at-requires c κs = search needs
-
-next-at-requires-2 : tie.Need-next-at-requires-2
-next-at-requires-2 c κs = search needs
-
 count-at-requires : tie.Need-count-at-requires
 count-at-requires c κs = omega (arith, third c, after-inside (file c) (after (file c) 0) (after-inside (file c) 0 (omega arith)))
 
@@ -30,4 +24,4 @@ returns : tie.Need-returns
 returns c = c .count-at .ensures ∙ ap (λ n. countOf (bytesAt (file (c .before)) n)) (third (c .before))
 
 pub object-count-spec : {M : Type 1} → statement M
-object-count-spec = tie.close (tie.spec next-at-requires next-at-requires-2 count-at-requires returns)
+object-count-spec = tie.close (tie.spec (λ c κs. search needs) (λ c κs. search needs) count-at-requires returns)

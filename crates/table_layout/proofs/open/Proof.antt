@@ -2,12 +2,15 @@
 use mathlib.Core.Path.{_≡_, refl, sym, ap, _∙_}
 use mathlib.Core.List.{List}
 use Prim.Native.Nat.{ℕ}
+use native.Mathlib.Omega.{arith}
 use borrow.Author.Needs.{needs}
 use Rattle.table_layout.specs.declared.Layout.{Layout}
-use Rattle.table_layout.specs.declared.Kind.the-variants.{Marks}
+use Rattle.table_kinds.specs.declared.Kind.the-variants.{Marks}
 use Rattle.table_layout.specs.declared.Opened.the-variants.{Refused}
-use Rattle.table_layout.specs.Layout.{walk, header, toAttributeNames, toMarks, toEnd, placeOf, layout, layoutOf, thenRest, openedFrom}
-use Rattle.table_layout.specs.Layout.Laws.{walk-then, layout-same, opened-long, opened-walked}
+use Rattle.table_walk.specs.Walk.{walk, placeOf, thenRest}
+use Rattle.table_layout.specs.Layout.{header, toAttributeNames, toMarks, toEnd, layout, layoutOf, openedFrom}
+use Rattle.table_walk.specs.Walk.Laws.{walk-then}
+use Rattle.table_layout.specs.Layout.Laws.{layout-same, opened-long, opened-walked}
 use Rattle.table_layout.proofs.open.Statement.{statement}
 use Rattle.table_layout.proofs.open.Tie as tie
 
@@ -61,51 +64,31 @@ kept c =
     (c .before .before .place-of .ensures ∙ ap placeOf (w .before .before .walk-header .ensures))
     (c .before .place-of2 .ensures ∙ ap placeOf (to-attribute-names w)) (c .place-of3 .ensures ∙ ap placeOf (to-marks w))
 
-refuse-requires : tie.Need-refuse-requires
-refuse-requires c κs = search needs
-
 returns : tie.Need-returns
-returns c = ap Refused (c .refuse .ensures) ∙ sym (opened-long (c .before .before .before .args .file .now) (c .before .if1 .taken))
-
-object-count-requires : tie.Need-object-count-requires
-object-count-requires c κs = search needs
-
-attribute-count-requires : tie.Need-attribute-count-requires
-attribute-count-requires c κs = search needs
-
-walk-header-requires : tie.Need-walk-header-requires
-walk-header-requires c κs = search needs
-
-walk-lines-requires : tie.Need-walk-lines-requires
-walk-lines-requires c κs = search needs
-
-walk-lines-requires-2 : tie.Need-walk-lines-requires-2
-walk-lines-requires-2 c κs = search needs
-
-walk-lines-requires-3 : tie.Need-walk-lines-requires-3
-walk-lines-requires-3 c κs = search needs
-
-place-of-requires : tie.Need-place-of-requires
-place-of-requires c κs = search needs
-
-place-of-requires-2 : tie.Need-place-of-requires-2
-place-of-requires-2 c κs = search needs
-
-place-of-requires-3 : tie.Need-place-of-requires-3
-place-of-requires-3 c κs = search needs
-
-walk-rest-requires : tie.Need-walk-rest-requires
-walk-rest-requires c κs = search needs
-
-opened-from-requires : tie.Need-opened-from-requires
-opened-from-requires c κs = search needs
+returns c = ap Refused (c .refuse .ensures) ∙ sym (opened-long (c .before .before .before .args .file .now) (omega arith))
 
 returns-2 : tie.Need-returns-2
 returns-2 c =
     let r = c .before in
     let w = walked (r .before) in
     c .opened-from .ensures ∙ ap (λ (l : Layout). openedFrom l (r .walk-rest .result)) (kept (r .before))
-    ∙ sym (opened-walked (file (counts w)) (counts w .before .before .if1 .left) _ (to-end r))
+    ∙ sym (opened-walked (file (counts w)) (omega arith) _ (to-end r))
 
 pub open-spec : {M : Type 1} → statement M
-open-spec = tie.close (tie.spec refuse-requires returns object-count-requires attribute-count-requires walk-header-requires walk-lines-requires walk-lines-requires-2 walk-lines-requires-3 place-of-requires place-of-requires-2 place-of-requires-3 walk-rest-requires opened-from-requires returns-2)
+open-spec =
+    tie.close
+    (tie.spec
+    (λ c κs. search needs)
+    returns
+    (λ c κs. search needs)
+    (λ c κs. search needs)
+    (λ c κs. search needs)
+    (λ c κs. search needs)
+    (λ c κs. search needs)
+    (λ c κs. search needs)
+    (λ c κs. search needs)
+    (λ c κs. search needs)
+    (λ c κs. search needs)
+    (λ c κs. search needs)
+    (λ c κs. search needs)
+    returns-2)

@@ -5,12 +5,6 @@ use Rattle.table_layout.specs.Layout.{openedFrom}
 use Rattle.table_layout.proofs.opened_from.Statement.{statement}
 use Rattle.table_layout.proofs.opened_from.Tie as tie
 
-enum-told : tie.Need-enum-told
-enum-told c = search needs
-
-enum-known-walked : tie.Need-enum-known-walked
-enum-known-walked c = search needs
-
 returns : tie.Need-returns
 returns c = sym (ap (openedFrom (c .before .before .args .layout)) (c .enum-told .given .1))
 
@@ -18,4 +12,4 @@ returns-2 : tie.Need-returns-2
 returns-2 c = sym (ap (openedFrom (c .before .before .before .args .layout)) (c .before .walked .given .1))
 
 pub opened-from-spec : {M : Type 1} → statement M
-opened-from-spec = tie.close (tie.spec enum-told enum-known-walked returns returns-2)
+opened-from-spec = tie.close (tie.spec (λ c. search needs) (λ c. search needs) returns returns-2)

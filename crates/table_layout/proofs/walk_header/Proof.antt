@@ -3,9 +3,9 @@ use mathlib.Core.Path.{_≡_, refl}
 use mathlib.Core.List.{List, [], _∷_}
 use Prim.Native.Nat.{ℕ}
 use borrow.Author.Needs.{needs}
-use Rattle.table_layout.specs.declared.Kind.the-variants.{Letter, Title, Objects, Attributes}
-use Rattle.table_layout.specs.Layout.{walk}
-use Rattle.table_layout.specs.Layout.Laws.{walk-then}
+use Rattle.table_kinds.specs.declared.Kind.the-variants.{Letter, Title, Objects, Attributes}
+use Rattle.table_walk.specs.Walk.{walk}
+use Rattle.table_walk.specs.Walk.Laws.{walk-then}
 use Rattle.table_layout.proofs.walk_header.Statement.{statement}
 use Rattle.table_layout.proofs.walk_header.Tie as tie
 
@@ -23,25 +23,18 @@ attributes : (c : tie.After-walk-lines3)
 attributes c =
     walk-then (file (c .before .before)) (Letter ∷ Title ∷ Objects ∷ []) {m = 1} (c .walk-lines3 .ensures) (objects (c .before)) refl refl
 
-walk-line-requires : tie.Need-walk-line-requires
-walk-line-requires c κs = search needs
-
-walk-lines-requires : tie.Need-walk-lines-requires
-walk-lines-requires c κs = search needs
-
-walk-lines-requires-2 : tie.Need-walk-lines-requires-2
-walk-lines-requires-2 c κs = search needs
-
-walk-lines-requires-3 : tie.Need-walk-lines-requires-3
-walk-lines-requires-3 c κs = search needs
-
-walk-lines-requires-4 : tie.Need-walk-lines-requires-4
-walk-lines-requires-4 c κs = search needs
-
 returns : tie.Need-returns
 returns c =
     walk-then (file (c .before .before .before)) (Letter ∷ Title ∷ Objects ∷ Attributes ∷ []) {m = 1} (c .walk-lines4 .ensures)
     (attributes (c .before)) refl refl
 
 pub walk-header-spec : {M : Type 1} → statement M
-walk-header-spec = tie.close (tie.spec walk-line-requires walk-lines-requires walk-lines-requires-2 walk-lines-requires-3 walk-lines-requires-4 returns)
+walk-header-spec =
+    tie.close
+    (tie.spec
+    (λ c κs. search needs)
+    (λ c κs. search needs)
+    (λ c κs. search needs)
+    (λ c κs. search needs)
+    (λ c κs. search needs)
+    returns)

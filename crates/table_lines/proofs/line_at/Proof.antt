@@ -60,8 +60,8 @@ returns c =
     let e : lineOf (drop (index t) (file t)) ≡ line 0 1 = ap lineOf (drop-cons (file t) (index t) 0 h) ∙ line-feed _ _ (eq-eqb _ _ (c .if1 .taken)) in
     line-same _ _ _ (omega (arith, ap sizeOf e)) (omega (arith, ap stepOf e))
 
-add-t14 : tie.Need-add-t14 Inv-loop μ-loop
-add-t14 c =
+add-t15 : tie.Need-add-t15 Inv-loop μ-loop
+add-t15 c =
     let t = turn (c .before) in
     omega (arith, ap stepOf (returned c), step-inside (drop (index t) (file t)), length-drop (index t) (file t))
 
@@ -99,11 +99,10 @@ line-at-spec =
     (λ c κs. omega arith)
     (λ c. omega arith)
     (λ c. omega arith)
-    add-t14
+    add-t15
     returns-2
     (λ c. omega arith)
     (λ c. omega arith)
     loop-again
-    (λ c. omega arith)
     (λ c. omega arith)
     returns-3)

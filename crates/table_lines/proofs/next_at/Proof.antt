@@ -9,9 +9,6 @@ use Rattle.table_lines.specs.Lines.Laws.{step-inside}
 use Rattle.table_lines.proofs.next_at.Statement.{statement}
 use Rattle.table_lines.proofs.next_at.Tie as tie
 
-line-at-requires : tie.Need-line-at-requires
-line-at-requires c κs = search needs
-
 add-result : tie.Need-add-result
 add-result c =
     let a = c .before .before .before .args in
@@ -22,4 +19,4 @@ returns : tie.Need-returns
 returns c = ap (λ (l : Line). c .before .before .before .args .at + l .step) (c .before .line-at .ensures)
 
 pub next-at-spec : {M : Type 1} → statement M
-next-at-spec = tie.close (tie.spec line-at-requires add-result returns)
+next-at-spec = tie.close (tie.spec (λ c κs. search needs) add-result returns)

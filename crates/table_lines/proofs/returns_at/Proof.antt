@@ -11,19 +11,10 @@ use Rattle.table_lines.specs.Lines.{feeds}
 use Rattle.table_lines.proofs.returns_at.Statement.{statement}
 use Rattle.table_lines.proofs.returns_at.Tie as tie
 
-shared-slice-read-if1 : tie.Need-shared-slice-read-if1
-shared-slice-read-if1 c = search needs
-
 returns : tie.Need-returns
 returns c =
     let a = c .before .before .args in
     ap (λ b. b && feeds (drop (a .i + 1) (a .file .now))) (sym (ne-eqb _ _ (c .if1 .taken)))
-
-add-next : tie.Need-add-next
-add-next c = search needs
-
-shared-slice-read-result : tie.Need-shared-slice-read-result
-shared-slice-read-result c = search needs
 
 returns-2 : tie.Need-returns-2
 returns-2 c =
@@ -40,4 +31,4 @@ returns-3 c =
 pub returns-at-spec : {M : Type 1} → statement M
 returns-at-spec =
     tie.close
-    (tie.spec shared-slice-read-if1 returns add-next shared-slice-read-result returns-2 returns-3)
+    (tie.spec (λ c. search needs) returns (λ c. search needs) (λ c. search needs) returns-2 returns-3)

@@ -1,20 +1,32 @@
 -- How the first line moves along the bytes (`line-feed`, `line-return`, `line-on`): it lies inside the bytes and takes at least
 -- one of them; its bytes hold no line feed (`no-feed`) and its end is nothing, a line feed, or a carriage return and a line feed
--- (`piece-end`). No byte is lost: the lines with their ends, joined, are the file (`pieces-whole`).
+-- (`piece-end`). No byte is lost: the lines with their ends, joined, are the file (`pieces-whole`). The last line may lack its line
+-- feed and has all its bytes then, a carriage return at the end too (`ends`, `last-line`).
 use mathlib.Core.Path.{_≡_, refl, sym, ap, _∙_}
-use mathlib.Core.Bool.{Bool, true, false, _&&_, false≢true}
+use mathlib.Core.Bool.{Bool, true, false, _&&_, false≢true, and-false}
 use mathlib.Core.Logic.{_⊎_, inl, inr}
-use mathlib.Core.List.{List, [], _∷_, _++_, flatten}
+use mathlib.Core.List.{List, [], _∷_, _++_, flatten, List·Memᴰ·head}
 use Prim.Native.Nat.{ℕ, zero, suc, _+_, _≤_, _<_}
 use native.Mathlib.Omega.{arith}
 use lib.ListN.{length, getD, take, drop, take-append-drop, length-drop}
 use lib.Seq.{length-take-le, drop-cons, drop-drop}
 use lib.Dec.{eqb}
-use borrow.Author.Tests.{eqb-true, eqb-false}
+use borrow.Author.Tests.{eqb-true, eqb-false, ne-eqb}
 use Rattle.theory.specs.Lists.{All}
-use Rattle.theory.specs.Lists.Laws.{all-nil, all-cons}
+use Rattle.theory.specs.Lists.Laws.{all-nil, all-cons, all-drop}
 use Rattle.table_lines.specs.declared.Line.{Line}
 use Rattle.table_lines.specs.Lines.{lineFeed, carriageReturn, feeds, line, longer, lineOf, bytesAt, after, pieces}
+
+-- 01's line ends, computed: a line feed; a carriage return before it is taken away, only one; the end of the file, where a
+-- carriage return is an ordinary byte; and the bytes of a last line without line feed
+ends : (lineOf (88 ∷ 10 ∷ 46 ∷ []) ≡ line 1 2)
+    × (lineOf (88 ∷ 13 ∷ 10 ∷ 46 ∷ []) ≡ line 1 3)
+    × (lineOf (88 ∷ 13 ∷ 13 ∷ 10 ∷ []) ≡ line 2 4)
+    × (lineOf (88 ∷ 46 ∷ []) ≡ line 2 2)
+    × (lineOf (88 ∷ 13 ∷ []) ≡ line 2 2)
+    × (bytesAt (88 ∷ 10 ∷ 46 ∷ []) 2 ≡ 46 ∷ [])
+unfolding lineOf
+ends = (refl, refl, refl, refl, refl, refl)
 
 -- a line is its two numbers
 pub line-same : (l : Line) (m n : ℕ) → m ≡ l .size → n ≡ l .step → line m n ≡ l
@@ -49,6 +61,18 @@ module _ (b : ℕ) (bs : List ℕ) where
       go false true true e r w = rw (line-return e (rw (r, w))) (g (eqb-true _ _ r) w)
       go false true false e r w = rw (line-on e (rw (r, w))) (h (eqb-false _ _ e))
       go false false v e r w = rw (line-on e (rw r)) (h (eqb-false _ _ e))
+
+-- without a line feed there is one line, which has all the bytes
+pub last-line : (bs : List ℕ) → All (λ b. b ≡ 10 → ⊥) bs → lineOf bs ≡ line (length bs) (length bs)
+unfolding lineOf
+last-line [] h = refl
+last-line (b ∷ bs) h =
+    let t = all-drop (b ∷ []) bs h in
+    line-on b bs (ne-eqb b 10 (h b (List·Memᴰ·head refl))) (no-return bs t) ∙ ap longer (last-line bs t)
+  where
+    no-return : (cs : List ℕ) → All (λ c. c ≡ 10 → ⊥) cs → (eqb b carriageReturn && feeds cs) ≡ false
+    no-return [] g = and-false (eqb b carriageReturn)
+    no-return (c ∷ cs) g = ap (λ t. eqb b carriageReturn && t) (ne-eqb c 10 (g c (List·Memᴰ·head refl))) ∙ and-false (eqb b carriageReturn)
 
 -- ---- the line lies inside the bytes
 

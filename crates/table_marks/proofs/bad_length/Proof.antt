@@ -5,9 +5,6 @@ use Rattle.machine.specs.Checks.{badLength}
 use Rattle.table_marks.proofs.bad_length.Statement.{statement}
 use Rattle.table_marks.proofs.bad_length.Tie as tie
 
-mul-result : tie.Need-mul-result
-mul-result c = search needs
-
 returns : tie.Need-returns
 unfolding badLength
 returns c = rw (ne-eqb _ _ (c .if1 .taken))
@@ -17,4 +14,4 @@ unfolding badLength
 returns-2 c = rw (eq-eqb _ _ (c .if1 .left))
 
 pub bad-length-spec : {M : Type 1} → statement M
-bad-length-spec = tie.close (tie.spec mul-result returns returns-2)
+bad-length-spec = tie.close (tie.spec (λ c. search needs) returns returns-2)

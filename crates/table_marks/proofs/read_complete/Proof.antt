@@ -7,19 +7,13 @@ use Rattle.table_layout.specs.declared.Opened.the-variants.{Refused}
 use Rattle.table_layout.specs.Layout.{openedOf}
 use Rattle.table_marks.specs.Marks.{readingFrom, rowWords}
 use Rattle.table_marks.specs.Marks.Laws.{reading-bad, reading-fine}
-use Rattle.table_marks.specs.Complete.{completeOf}
-use Rattle.table_marks.specs.Complete.Laws.{complete-layout}
+use Rattle.complete_tables.specs.Complete.{completeOf}
+use Rattle.complete_tables.specs.Complete.Laws.{complete-layout}
 use Rattle.table_marks.proofs.read_complete.Statement.{statement}
 use Rattle.table_marks.proofs.read_complete.Tie as tie
 
 abbrev start : tie.After-bad-length → tie.Start
 start c = c .before .before .before
-
-bad-length-requires : tie.Need-bad-length-requires
-bad-length-requires c κs = search needs
-
-refuse-requires : tie.Need-refuse-requires
-refuse-requires c κs = search needs
 
 returns : tie.Need-returns
 returns c =
@@ -29,16 +23,10 @@ returns c =
     ∙ sym (reading-bad (length (a .rows .now)) (completeOf (a .file .now) (openedOf (a .file .now))) (sym (b .bad-length .ensures) ∙ c .before .if1 .taken)) in
     (e, ap (λ (o : Opened). rowWords o (a .file .now) (a .rows .now)) e)
 
-open-complete-requires : tie.Need-open-complete-requires
-open-complete-requires c κs = search needs
-
 read-opened-requires : tie.Need-read-opened-requires
 read-opened-requires c κs l e =
     let o = c .before in
     complete-layout _ l (sym (o .open-complete .ensures) ∙ e)
-
-same-length : tie.Need-same-length
-same-length c = search needs
 
 returns-2 : tie.Need-returns-2
 returns-2 c =
@@ -51,4 +39,13 @@ returns-2 c =
     (e, r .read-opened .ensures .1 ∙ ap (λ (x : Opened). rowWords x (a .file .now) (a .rows .now)) e)
 
 pub read-complete-spec : {M : Type 1} → statement M
-read-complete-spec = tie.close (tie.spec bad-length-requires refuse-requires returns open-complete-requires read-opened-requires same-length returns-2)
+read-complete-spec =
+    tie.close
+    (tie.spec
+    (λ c κs. search needs)
+    (λ c κs. search needs)
+    returns
+    (λ c κs. search needs)
+    read-opened-requires
+    (λ c. search needs)
+    returns-2)

@@ -13,12 +13,6 @@ use Rattle.table_marks.proofs.read_marks.Tie as tie
 abbrev start : tie.After-bad-length → tie.Start
 start c = c .before .before .before
 
-bad-length-requires : tie.Need-bad-length-requires
-bad-length-requires c κs = search needs
-
-refuse-requires : tie.Need-refuse-requires
-refuse-requires c κs = search needs
-
 returns : tie.Need-returns
 returns c =
     let b = c .before .before in
@@ -27,16 +21,10 @@ returns c =
     ∙ sym (reading-bad (length (a .rows .now)) (openedOf (a .file .now)) (sym (b .bad-length .ensures) ∙ c .before .if1 .taken)) in
     (e, ap (λ (o : Opened). rowWords o (a .file .now) (a .rows .now)) e)
 
-open-requires : tie.Need-open-requires
-open-requires c κs = search needs
-
 read-opened-requires : tie.Need-read-opened-requires
 read-opened-requires c κs l e =
     let o = c .before in
     sym (o .«open» .ensures) ∙ e
-
-same-length : tie.Need-same-length
-same-length c = search needs
 
 returns-2 : tie.Need-returns-2
 returns-2 c =
@@ -49,4 +37,13 @@ returns-2 c =
     (e, r .read-opened .ensures .1 ∙ ap (λ (x : Opened). rowWords x (a .file .now) (a .rows .now)) e)
 
 pub read-marks-spec : {M : Type 1} → statement M
-read-marks-spec = tie.close (tie.spec bad-length-requires refuse-requires returns open-requires read-opened-requires same-length returns-2)
+read-marks-spec =
+    tie.close
+    (tie.spec
+    (λ c κs. search needs)
+    (λ c κs. search needs)
+    returns
+    (λ c κs. search needs)
+    read-opened-requires
+    (λ c. search needs)
+    returns-2)

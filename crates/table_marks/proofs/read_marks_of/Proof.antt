@@ -4,19 +4,15 @@ use borrow.Author.Needs.{needs}
 use lib.ListN.{length}
 use Rattle.table_layout.specs.declared.Opened.the-variants.{Refused}
 use Rattle.table_layout.specs.Layout.{openedOf}
-use Rattle.table_marks.specs.Marks.Laws.{reading-bad, reading-fine, as-layout}
-use Rattle.table_marks.specs.Marks.{readingFrom, openedAs}
+use Rattle.table_marks.specs.Marks.Laws.{reading-bad, reading-fine}
+use Rattle.found_layout.specs.Found.Laws.{as-layout}
+use Rattle.table_marks.specs.Marks.{readingFrom}
+use Rattle.found_layout.specs.Found.{openedAs}
 use Rattle.table_marks.proofs.read_marks_of.Statement.{statement}
 use Rattle.table_marks.proofs.read_marks_of.Tie as tie
 
 abbrev start : tie.After-bad-length → tie.Start
 start c = c .before .before .before
-
-bad-length-requires : tie.Need-bad-length-requires
-bad-length-requires c κs = search needs
-
-refuse-requires : tie.Need-refuse-requires
-refuse-requires c κs = search needs
 
 returns : tie.Need-returns
 returns c =
@@ -26,16 +22,10 @@ returns c =
     ∙ sym (reading-bad (length (a .rows .now)) (openedAs (a .layout) (openedOf (a .file .now))) (sym (b .bad-length .ensures) ∙ c .before .if1 .taken)) in
     (e, refl)
 
-open-as-requires : tie.Need-open-as-requires
-open-as-requires c κs = search needs
-
 read-opened-requires : tie.Need-read-opened-requires
 read-opened-requires c κs l e =
     let o = c .before in
     as-layout _ _ l (sym (o .open-as .ensures) ∙ e)
-
-same-length : tie.Need-same-length
-same-length c = search needs
 
 returns-2 : tie.Need-returns-2
 returns-2 c =
@@ -48,4 +38,13 @@ returns-2 c =
     (e, r .read-opened .ensures .1)
 
 pub read-marks-of-spec : {M : Type 1} → statement M
-read-marks-of-spec = tie.close (tie.spec bad-length-requires refuse-requires returns open-as-requires read-opened-requires same-length returns-2)
+read-marks-of-spec =
+    tie.close
+    (tie.spec
+    (λ c κs. search needs)
+    (λ c κs. search needs)
+    returns
+    (λ c κs. search needs)
+    read-opened-requires
+    (λ c. search needs)
+    returns-2)

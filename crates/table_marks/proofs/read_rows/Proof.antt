@@ -1,14 +1,15 @@
 -- The words so far, with the rows of the lines left, are the rows of all the lines.
 use mathlib.Core.Path.{_≡_, ap, _∙_}
-use Prim.Native.Nat.{_+_, _-_, _*_, _<_}
+use Prim.Native.Nat.{_+_, _-_, _*_, _≤_, _<_}
 use native.Mathlib.Omega.{arith}
 use borrow.Author.Needs.{needs}
 use lib.ListN.{length, take, drop, length-set, length-drop}
-use lib.Seq.{length-take-le}
+use lib.Seq.{length-take-le, take-all}
 use Rattle.context.specs.Objects.{object}
+use Rattle.machine.specs.Checks.{mostAttributes}
 use Rattle.table_lines.specs.Lines.{bytesAt}
-use Rattle.table_marks.specs.Marks.{rowOf}
-use Rattle.table_marks.specs.Marks.Laws.{NextLine}
+use Rattle.table_rows.specs.Rows.{rowOf}
+use Rattle.table_walk.specs.Walk.Passed.{NextLine}
 use Rattle.table_marks.specs.Marks.Loop.{Reads, reads-start, next, reads-on, reads-end}
 use Rattle.table_marks.proofs.read_rows.Statement.{statement}
 use Rattle.table_marks.proofs.read_rows.Tie as tie
@@ -35,7 +36,18 @@ ahead : (c : tie.In-loop Inv-loop μ-loop)
     → let l = c .before .loop in
     let a = start c .args in
     NextLine (a .part .now) (a .count) (a .n) (l .at) (l .i)
-ahead c = let l = c .before .loop in next _ _ _ _ (l .rows) (l .at) (l .i) (l .inv) (c .loop-test .taken)
+ahead c = let l = c .before .loop in next _ _ _ _ (l .rows) (l .at) (l .i) (l .inv) (omega arith)
+
+-- it has no more bytes than a row has attributes
+short : (c : tie.In-loop Inv-loop μ-loop)
+    → let l = c .before .loop in
+    let a = start c .args in
+    length (take (a .n) (drop (l .at) (a .part .now))) ≤ mostAttributes
+short c =
+    let l = c .before .loop in
+    let a = start c .args in
+    let h = length-take-le (a .n) (drop (l .at) (a .part .now)) (omega (arith, ahead c .fits, length-drop (l .at) (a .part .now))) in
+    rw h (start c .pre .1)
 
 -- the row read is the line's
 row : (c : tie.After-row-of Inv-loop μ-loop)
@@ -45,8 +57,8 @@ row c =
     let l = t .before .loop in
     let a = start t .args in
     let e : l .at + a .n - l .at ≡ a .n = omega arith in
-    c .row-of .ensures ∙ ap (λ k. rowOf (take k (drop (l .at) (a .part .now)))) e
-    ∙ ap rowOf (ahead t .bytes)
+    c .row-of .ensures ∙ ap (λ k. rowOf (take mostAttributes (take k (drop (l .at) (a .part .now))))) e
+    ∙ ap rowOf (take-all mostAttributes (take (a .n) (drop (l .at) (a .part .now))) (short t) ∙ ahead t .bytes)
 
 loop-holds : tie.Need-loop-holds Inv-loop μ-loop
 loop-holds c =
@@ -56,23 +68,8 @@ loop-holds c =
 add-end : tie.Need-add-end Inv-loop μ-loop
 add-end c = omega (arith, ahead c .fits)
 
-sub-row-of : tie.Need-sub-row-of Inv-loop μ-loop
-sub-row-of c = search needs
-
-part-row-of-start : tie.Need-part-row-of-start Inv-loop μ-loop
-part-row-of-start c = search needs
-
 part-row-of-end : tie.Need-part-row-of-end Inv-loop μ-loop
 part-row-of-end c = ahead c .fits
-
-row-of-requires : tie.Need-row-of-requires Inv-loop μ-loop
-row-of-requires c κs =
-    let t = c .before in
-    let l = t .before .loop in
-    let a = start t .args in
-    let e : l .at + a .n - l .at ≡ a .n = omega arith in
-    let h = length-take-le (a .n) (drop (l .at) (a .part .now)) (omega (arith, ahead t .fits, length-drop (l .at) (a .part .now))) in
-    rw (e, h) (start t .pre .1)
 
 mul-rows : tie.Need-mul-rows Inv-loop μ-loop
 mul-rows c = omega (arith, room (turn c))
@@ -95,9 +92,6 @@ mul-rows-4 c = omega (arith, room (turn c))
 slice-write-rows-2 : tie.Need-slice-write-rows-2 Inv-loop μ-loop
 slice-write-rows-2 c = simp length-set (omega (arith, room (turn c)))
 
-next-at-requires : tie.Need-next-at-requires Inv-loop μ-loop
-next-at-requires c κs = search needs
-
 add-i : tie.Need-add-i Inv-loop μ-loop
 add-i c = omega (arith, room (turn (c .before)))
 
@@ -109,7 +103,7 @@ loop-again c =
     let t = turn (c .before) in
     let l = t .before .loop in
     rw (c .next-at .ensures ∙ ahead t .behind)
-    (reads-on _ _ _ _ (l .rows) (l .at) (l .i) (l .inv) (t .loop-test .taken) (start t .pre .0) (object (c .before .row-of .result .yes) (c .before .row-of .result .no))
+    (reads-on _ _ _ _ (l .rows) (l .at) (l .i) (l .inv) (omega arith) (start t .pre .0) (object (c .before .row-of .result .yes) (c .before .row-of .result .no))
     (row (c .before)))
 
 same-length : tie.Need-same-length Inv-loop μ-loop
@@ -118,7 +112,30 @@ same-length c = omega arith
 returns : tie.Need-returns Inv-loop μ-loop
 returns c =
     let l = c .before .loop in
-    reads-end _ _ _ _ (l .rows) (l .at) (l .i) (l .inv) (c .loop-test .left)
+    reads-end _ _ _ _ (l .rows) (l .at) (l .i) (l .inv) (omega arith)
 
 pub read-rows-spec : {M : Type 1} → statement M
-read-rows-spec = tie.close (tie.spec Inv-loop μ-loop loop-holds add-end sub-row-of part-row-of-start part-row-of-end row-of-requires mul-rows mul-rows-2 slice-write-rows mul-rows-3 add-rows mul-rows-4 slice-write-rows-2 next-at-requires add-i loop-less loop-again same-length returns)
+read-rows-spec =
+    tie.close
+    (tie.spec
+    Inv-loop
+    μ-loop
+    loop-holds
+    add-end
+    (λ c. search needs)
+    (λ c. search needs)
+    part-row-of-end
+    (λ c κs. search needs)
+    mul-rows
+    mul-rows-2
+    slice-write-rows
+    mul-rows-3
+    add-rows
+    mul-rows-4
+    slice-write-rows-2
+    (λ c κs. search needs)
+    add-i
+    loop-less
+    loop-again
+    same-length
+    returns)

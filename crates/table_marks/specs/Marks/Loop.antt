@@ -8,12 +8,13 @@ use native.Mathlib.Omega.{arith}
 use native.Mathlib.Nat.{sub-zero}
 use lib.ListN.{length, take, drop, set, replicate, length-set, take-append-drop}
 use lib.Seq.{drop-drop, take-suc-set, drop-set-lt}
-use Rattle.table_layout.specs.declared.Kind.the-variants.{Marks}
+use Rattle.table_kinds.specs.declared.Kind.the-variants.{Marks}
 use Rattle.table_lines.specs.Lines.{bytesAt, after}
 use Rattle.context.specs.Objects.{Object}
-use Rattle.table_layout.specs.Layout.{walk, Passes}
-use Rattle.table_marks.specs.Marks.{rowOf, rowsFrom, flat}
-use Rattle.table_marks.specs.Marks.Laws.{NextLine, next-line}
+use Rattle.table_walk.specs.Walk.{walk, Passes}
+use Rattle.table_rows.specs.Rows.{rowOf, rowsFrom}
+use Rattle.table_marks.specs.Marks.{flat}
+use Rattle.table_walk.specs.Walk.Passed.{NextLine, next-line}
 
 -- two stores at i * 2 make the words up to there two longer
 take-stored : (ws : List ℕ) (i a b : ℕ) → (i + 1) * 2 ≤ length ws

@@ -7,18 +7,6 @@ use lib.ListN.{take, drop}
 use Rattle.table_names.proofs.bytes_of.Statement.{statement}
 use Rattle.table_names.proofs.bytes_of.Tie as tie
 
-add-end : tie.Need-add-end
-add-end c = search needs
-
-sub-result : tie.Need-sub-result
-sub-result c = search needs
-
-part-result-start : tie.Need-part-result-start
-part-result-start c = search needs
-
-part-result-end : tie.Need-part-result-end
-part-result-end c = search needs
-
 returns : tie.Need-returns
 returns c =
     let a = c .before .before .args in
@@ -27,4 +15,4 @@ returns c =
     ap (λ k. take k (drop at (a .file .now))) e
 
 pub bytes-of-spec : {M : Type 1} → statement M
-bytes-of-spec = tie.close (tie.spec add-end sub-result part-result-start part-result-end returns)
+bytes-of-spec = tie.close (tie.spec (λ c. search needs) (λ c. search needs) (λ c. search needs) (λ c. search needs) returns)

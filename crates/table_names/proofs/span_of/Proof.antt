@@ -2,11 +2,12 @@
 use mathlib.Core.Path.{_≡_, sym, ap, _∙_}
 use mathlib.Core.Bool.{true}
 use lib.ListN.{drop}
+use native.Mathlib.Omega.{arith}
 use borrow.Author.Needs.{needs}
 use borrow.Author.Tests.{not-true, not-false}
 use Rattle.table_lines.specs.declared.Line.{Line}
 use Rattle.table_lines.specs.Lines.{lineOf}
-use Rattle.table_layout.specs.Layout.{finds}
+use Rattle.found_layout.specs.Found.{finds}
 use Rattle.table_names.specs.Names.{span}
 use Rattle.table_names.specs.Names.Laws.{span-unfound, span-past, span-there}
 use Rattle.table_names.proofs.span_of.Statement.{statement}
@@ -19,9 +20,6 @@ start c = c .before .before
 found : (c : tie.Else1) → let a = start (c .before) .args in finds (a .file .now) (a .layout) ≡ true
 found c = sym (c .before .is-found .ensures) ∙ not-false _ (c .if1 .left)
 
-is-found-requires : tie.Need-is-found-requires
-is-found-requires c κs = search needs
-
 returns : tie.Need-returns
 returns c =
     let a = start (c .before) .args in
@@ -30,13 +28,7 @@ returns c =
 returns-2 : tie.Need-returns-2
 returns-2 c =
     let a = start (c .before .before) .args in
-    sym (span-past (finds (a .file .now) (a .layout)) (a .count) (a .start) (a .number) (a .file .now) (c .if2 .taken))
-
-skip-requires : tie.Need-skip-requires
-skip-requires c κs = search needs
-
-line-at-requires : tie.Need-line-at-requires
-line-at-requires c κs = search needs
+    sym (span-past (finds (a .file .now) (a .layout)) (a .count) (a .start) (a .number) (a .file .now) (omega arith))
 
 returns-3 : tie.Need-returns-3
 returns-3 c =
@@ -44,7 +36,7 @@ returns-3 c =
     let a = start (d .before .before) .args in
     ap (λ (l : Line). span (c .before .skip .result) (l .size)) (c .line-at .ensures)
     ∙ ap (λ at. span at (lineOf (drop at (a .file .now)) .size)) (c .before .skip .ensures)
-    ∙ sym (span-there _ (a .count) (a .start) (a .number) (a .file .now) (found (d .before)) (d .if2 .left))
+    ∙ sym (span-there _ (a .count) (a .start) (a .number) (a .file .now) (found (d .before)) (omega arith))
 
 pub span-of-spec : {M : Type 1} → statement M
-span-of-spec = tie.close (tie.spec is-found-requires returns returns-2 skip-requires line-at-requires returns-3)
+span-of-spec = tie.close (tie.spec (λ c κs. search needs) returns returns-2 (λ c κs. search needs) (λ c κs. search needs) returns-3)

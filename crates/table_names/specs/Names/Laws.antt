@@ -1,25 +1,37 @@
--- A name is the bytes of its line (`span-name`), which lie inside the file (`span-inside`, `object-span-inside`,
+-- Computed cases (`cases`). A name is the bytes of its line (`span-name`), which lie inside the file (`span-inside`, `object-span-inside`,
 -- `attribute-span-inside`). No name is empty, and none has more than 80 bytes (`object-name-some`, `attribute-name-some`). So the refusal
 -- is 3 just for a number past the last and for a layout that reading the file does not find (`object-refused`, `attribute-refused`).
 use mathlib.Core.Path.{_≡_, sym, refl, ap, _∙_}
 use mathlib.Core.Bool.{Bool, true, false, _&&_, and-false, and-eq-true-iff}
-use mathlib.Core.List.{List, []}
+use mathlib.Core.List.{List, [], _∷_}
 use Prim.Native.Nat.{ℕ, zero, suc, _+_, _≤_, _<_}
 use native.Mathlib.Omega.{arith}
 use lib.ListN.{length, take, drop, replicate}
 use lib.Dec.{ltb, leb}
 use borrow.Author.Tests.{ltb-true, leb-true, lt-ltb, le-ltb, ne-eqb}
-use Rattle.table_layout.specs.declared.Kind.{Kind}
-use Rattle.table_layout.specs.declared.Kind.the-variants.{Name}
+use Rattle.table_kinds.specs.declared.Kind.{Kind}
+use Rattle.table_kinds.specs.declared.Kind.the-variants.{Name}
 use Rattle.table_layout.specs.declared.Layout.{Layout}
 use Rattle.table_layout.specs.declared.Opened.the-variants.{Found}
 use Rattle.table_lines.specs.Lines.{lineOf, bytesAt, after}
 use Rattle.table_lines.specs.Lines.Laws.{bytes-inside, after-inside}
-use Rattle.table_layout.specs.Layout.{mostNameBytes, fault, lineFault, walk, header, toAttributeNames, toMarks, objectCount, attributeCount, Passes, layoutOf, openedOf, finds}
-use Rattle.table_layout.specs.Layout.Same.{finds-table}
-use Rattle.table_layout.specs.Layout.Passed.{unless-fine, line-there, passes-append, passes-cons, opened-table, starts-inside}
+use Rattle.table_kinds.specs.Kinds.{mostNameBytes, fault}
+use Rattle.table_walk.specs.Walk.{lineFault, walk, Passes}
+use Rattle.table_layout.specs.Layout.{header, toAttributeNames, toMarks, objectCount, attributeCount, layoutOf, openedOf}
+use Rattle.found_layout.specs.Found.{finds}
+use Rattle.found_layout.specs.Found.Laws.{finds-table}
+use Rattle.table_kinds.specs.Kinds.Laws.{unless-fine}
+use Rattle.table_walk.specs.Walk.Passed.{line-there, passes-append, passes-cons}
+use Rattle.table_layout.specs.Layout.Passed.{opened-table, starts-inside}
 use Rattle.table_names.specs.declared.Span.{Span}
 use Rattle.table_names.specs.Names.{skipped, span, bytesOf, spanFrom, nameFrom, objectSpan, attributeSpan, objectName, attributeName, nameRefusal}
+
+-- computed, of the names `a` and `bc`: number 1; number 2 and a layout that is not found have none
+cases : (spanFrom true 2 0 1 (97 ∷ 10 ∷ 98 ∷ 99 ∷ []) ≡ span 2 2)
+    × (spanFrom true 2 0 2 (97 ∷ 10 ∷ 98 ∷ 99 ∷ []) ≡ span 0 0)
+    × (spanFrom false 2 0 1 (97 ∷ 10 ∷ 98 ∷ 99 ∷ []) ≡ span 0 0)
+unfolding skipped lineOf
+cases = (refl, refl, refl)
 
 -- ---- a name by its number
 

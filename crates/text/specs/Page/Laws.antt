@@ -34,6 +34,10 @@ put-past bytes at b h = rw (le-ltb at (length bytes) h, put, text)
 pub text-on : (p : Page) {q r : Page} (xs ys : List ℕ) → q ≡ text p xs → r ≡ text q ys → r ≡ text p (xs ++ ys)
 text-on p xs ys e f = f ∙ ap (λ s. text s ys) e ∙ sym (text-append p xs ys)
 
+-- a text of two parts, then the next
+pub text-then : (p : Page) {q r : Page} (xs ys zs : List ℕ) → q ≡ text p (xs ++ ys) → r ≡ text q zs → r ≡ text p (xs ++ (ys ++ zs))
+text-then p xs ys zs e f = text-on p (xs ++ ys) zs e f ∙ ap (text p) (append-assoc xs ys zs)
+
 -- the first byte of a text, then the rest of it
 pub text-step : (p : Page) {q : Page} (b : ℕ) (bs : List ℕ) → q ≡ text p (b ∷ []) → text q bs ≡ text p (b ∷ bs)
 text-step p b bs e = text-on p (b ∷ []) bs e refl

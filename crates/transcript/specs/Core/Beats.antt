@@ -16,18 +16,19 @@ use Rattle.attribute_set.specs.Sets.{full}
 use Rattle.attribute_set.specs.Sets.Laws.{sub-refl, apart-sub, without-sub}
 use Rattle.attribute_set.specs.Lectic.Rank.{rank, rank-lt, rank-before}
 use Rattle.attribute_set.specs.Words.{words}
-use Rattle.implication.specs.Next.{next}
-use Rattle.implication.specs.Next.Laws.{next-is}
+use Rattle.next_set.specs.Next.{next}
+use Rattle.next_set.specs.Next.Laws.{next-is}
 use Rattle.context.specs.Places.Laws.{lowest-at, none-lowest, all-anywhere}
 use Rattle.context.specs.Objects.{Object, object, refutes, firstRefuting, contradicts}
 use Rattle.context.specs.Objects.Laws.{has-written, lacks-written, spares, apart-marked}
-use Rattle.context.specs.Reach.Laws.{reach-apart}
+use Rattle.reach.specs.Reach.Laws.{reach-apart}
 use Rattle.context.specs.Tables.{AgreesImplication}
 use Rattle.context.specs.Tables.Laws.{no-contradiction}
-use Rattle.machine.specs.Checks.{State, check, force, reachOf, whole, tight, open-question, questionStands, question, withQuestion, mostAttributes, firstFailing, sessionChecks, yesChecks, noChecks}
-use Rattle.machine.specs.Checks.Laws.{or-false, standing-cases, Stands, passed, failing-nothing, failing-here, failing-later, failing-append}
-use Rattle.machine.specs.Machine.{Call, step, accept, reject, taken, turn, moveTo, afterYes, afterNo, performed, checksOf, perform}
+use Rattle.machine.specs.Checks.{State, check, force, reachOf, question, withQuestion, mostAttributes, firstFailing, sessionChecks, yesChecks, noChecks}
+use Rattle.machine.specs.Checks.Laws.{or-false, Stands, passed, failing-nothing, failing-here, failing-later, failing-append}
+use Rattle.machine.specs.Machine.{Call, step, accept, reject, taken, turn, afterMove, afterYes, afterNo, performed, checksOf, perform}
 use Rattle.machine.specs.Machine.Laws.{perform-refused, perform-accepted, step-cases}
+use Rattle.machine.specs.Facts.Laws.{standing-question}
 use Rattle.machine.specs.Demand3.Invariant.{with-over}
 use Rattle.output_lines.specs.Lines.{yesLine, noLine, listLines, endLine, refusalLine}
 use Rattle.transcript.specs.Output.{Beat, more, last, replied, answered, stepped, beat}
@@ -132,12 +133,6 @@ module _ (table : List Object) (s : State) (changes : ℕ) (a : Along table s ch
       rw (perform-accepted s c (e ∙ failing-later (check 12 false 0) [] refl ∙ failing-nothing), p) (ap (more line after) k)
 
   module _ (t : Stands s) where
-    stays : not (questionStands s) ≡ false
-    unfolding questionStands
-    stays =
-        standing-cases s (λ x. not (elim x as (λ y. Bool) [ whole ↦ false | tight ↦ false | open-question ↦ true ]) ≡ false)
-        (λ e. absurd (t .below e)) (λ ne e. absurd (t .differs e)) (λ ne d. refl)
-
     -- the checks of a no with a row of the table that refutes
     no-checks : (o : Object) → Refuting table (question s) o
         → firstFailing (checksOf s (reject o)) ≡ firstFailing (check 12 (leb (s .lent .rows / 2) (length (s .rows))) 0 ∷ [])
@@ -147,7 +142,7 @@ module _ (table : List Object) (s : State) (changes : ℕ) (a : Along table s ch
         let fitting = or-none _ _ (in-familiar (s .n) o (row-in table s changes a o (r .member))) once in
         let refuting = ap not (refutes-same (force s) [] o (question s) ∙ r .refutes) in
         failing-append (sessionChecks s []) (noChecks s o) (passed _ (session-passes table s changes a))
-        ∙ failing-later _ _ stays ∙ failing-later _ _ fitting ∙ failing-later _ _ refuting
+        ∙ failing-later _ _ (standing-question s t) ∙ failing-later _ _ fitting ∙ failing-later _ _ refuting
         ∙ failing-later _ _ (row-consistent table s changes a o (r .member))
 
     core-no : (o : Object) (number : ℕ) → Refuting table (question s) o
@@ -169,7 +164,7 @@ module _ (table : List Object) (s : State) (changes : ℕ) (a : Along table s ch
     unfolding checksOf yesChecks
     yes-checks agrees =
         failing-append (sessionChecks s []) (yesChecks s) (passed _ (session-passes table s changes a))
-        ∙ failing-later _ _ stays
+        ∙ failing-later _ _ (standing-question s t)
         ∙ failing-later _ _ (all-anywhere _ (s .rows) (λ o m. yes-consistent agrees o (a .rows o m)))
 
     core-yes : AgreesImplication table (question s)
@@ -208,7 +203,7 @@ module _ (table : List Object) (s : State) (changes : ℕ) where
   core-last e = rw (eq-eqb _ _ e, coreBeat) refl
 
   pub core-moved : (s .current ≡ full (s .n) → ⊥) → reachOf s ≡ s .current
-      → coreBeat table s changes ≡ more [] (moveTo s (next (force s) (s .n) (s .current))) (counted changes)
+      → coreBeat table s changes ≡ more [] (afterMove s) (counted changes)
   unfolding coreBeat
   core-moved ne e = rw (ne-eqb _ _ ne, coreBeat) (rw (eq-eqb _ _ e) refl)
 
@@ -224,5 +219,5 @@ core-beat table s changes a =
     (λ e. sym (core-last table s changes e))
     (λ ne e.
     let count = counted-is table s changes a _ (later-counts table s changes a (force s) (a .reached .over) ne) in
-    ap (more [] (moveTo s (next (force s) (s .n) (s .current)))) (sym count) ∙ sym (core-moved table s changes ne e))
+    ap (more [] (afterMove s)) (sym count) ∙ sym (core-moved table s changes ne e))
     (λ ne d. core-answer table s changes a (record { below = ne; differs = d }) ∙ sym (core-asked table s changes ne d)))

@@ -9,12 +9,11 @@ use lib.Dec.{leb}
 use borrow.Author.Tests.{leb-false}
 use Rattle.theory.specs.Lists.Laws.{all-nil, all-snoc, pairwise-snoc}
 use Rattle.attribute_set.specs.Sets.{full}
-use Rattle.implication.specs.Next.{next}
 use Rattle.context.specs.Objects.{Object}
 use Rattle.context.specs.Tables.{Table, AgreesImplication}
 use Rattle.machine.specs.Checks.{Lent, State, force, reachOf, question, withQuestion, sessionChecks}
 use Rattle.machine.specs.Checks.Laws.{Stands, passed}
-use Rattle.machine.specs.Machine.{moveTo, afterYes, afterNo, opening, opened}
+use Rattle.machine.specs.Machine.{afterMove, afterYes, afterNo, opening, opened}
 use Rattle.machine.specs.Machine.Laws.{step-cases, opened-is}
 use Rattle.machine.specs.Demand3.Invariant.{Reached, with-over, moved-reached, yes-reached, no-reached, opened-reached}
 use Rattle.output_lines.specs.Lines.{yesLine, noLine, refusalLine}
@@ -31,7 +30,7 @@ pub record BeatKeeps (table : List Object) (before : State) (s : State) (changes
 
 module _ (table : List Object) (s : State) (changes : ℕ) (a : Along table s changes) where
   moved-along : (s .current ≡ full (s .n) → ⊥) → reachOf s ≡ s .current
-      → Along table (moveTo s (next (force s) (s .n) (s .current))) (counted changes)
+      → Along table (afterMove s) (counted changes)
   moved-along ne e =
       let later = later-counts table s changes a (force s) (a .reached .over) ne in
       record {

@@ -20,10 +20,10 @@ use Rattle.machine.specs.Checks.{Lent, State, mostAttributes, badLength, outsid
 use Rattle.machine.specs.Checks.Laws.{Passed, none-failing}
 use Rattle.machine.specs.Machine.{Opening, opening, opened, rejected, openingState}
 use Rattle.table_layout.specs.Layout.{openedOf}
-use Rattle.table_marks.specs.Marks.Laws.{rows-count}
-use Rattle.table_marks.specs.Complete.{completeOf}
+use Rattle.table_rows.specs.Rows.Laws.{rows-count}
+use Rattle.complete_tables.specs.Complete.{completeOf}
 use Rattle.table_layout.specs.Layout.Passed.{table-attributes, table-objects}
-use Rattle.table_marks.specs.Complete.Laws.{complete-table, complete-layout}
+use Rattle.complete_tables.specs.Complete.Laws.{complete-table, complete-layout}
 use Rattle.table_layout.specs.declared.Layout.{Layout}
 use Rattle.session.specs.declared.Refusal.{Refusal}
 use Rattle.table_layout.specs.declared.Opened.{Opened}

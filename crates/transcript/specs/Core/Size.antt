@@ -10,12 +10,11 @@ use lib.Dec.{eqb, ltb, leb}
 use borrow.Author.Tests.{ltb-false, leb-false}
 use Rattle.theory.specs.Implications.{Implication}
 use Rattle.attribute_set.specs.Sets.{full}
-use Rattle.implication.specs.Next.{next}
 use Rattle.context.specs.Objects.{Object}
 use Rattle.session.specs.declared.Refusal.{Refusal}
-use Rattle.machine.specs.Checks.{State, badLength, mostAttributes, mostObjects, mostImplications, force, reachOf, question}
+use Rattle.machine.specs.Checks.{State, badLength, mostAttributes, mostObjects, mostImplications, reachOf, question}
 use Rattle.machine.specs.Checks.Laws.{or-false}
-use Rattle.machine.specs.Machine.{moveTo, afterYes, afterNo}
+use Rattle.machine.specs.Machine.{afterMove, afterYes, afterNo}
 use Rattle.text.specs.Text.{digits, numberText, setText}
 use Rattle.output_lines.specs.Lines.{ruleText, yesLine, noLine, listLines, endLine, refusalLine}
 use Rattle.transcript.specs.Output.{Beat, more, last, beat, beats, outputMost}
@@ -142,7 +141,7 @@ module _ (table : List Object) (s : State) (changes : ℕ) (h : Along table s ch
           → Paid s (elim b [
             | true ↦ last (listLines (s .n) (s .list) ++ endLine (length (s .list)) (length (s .rows)) changes)
             | false ↦ elim d [
-              | true ↦ more [] (moveTo s (next (force s) (s .n) (s .current))) (counted changes)
+              | true ↦ more [] (afterMove s) (counted changes)
               | false ↦ coreReply table s changes (question s)
             ]
           ])

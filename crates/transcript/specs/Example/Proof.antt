@@ -2,22 +2,24 @@
 use mathlib.Core.Path.{refl}
 use Rattle.attribute_set.specs.Sets.{full, without, inside, meets}
 use Rattle.implication.specs.Closure.{fire, pass, close, closure}
-use Rattle.implication.specs.Next.{nextBelow}
+use Rattle.next_set.specs.Next.{fits, nextBelow}
 use Rattle.context.specs.Places.{lowest, anywhere}
 use Rattle.context.specs.Objects.{has, lacks, refutes, firstRefuting, markedTwice, contradicts}
-use Rattle.context.specs.Reach.{cut, narrow, reach}
+use Rattle.reach.specs.Reach.{cut, narrow, reach}
 use Rattle.machine.specs.Checks.{standing, questionStands, firstFailing, badLength, strange, outsideM, sessionChecks, yesChecks, noChecks}
 use Rattle.machine.specs.Machine.{performStep, performed, checksOf, perform, opening}
 use Rattle.table_lines.specs.Lines.{lineOf}
 use Rattle.table_bytes.specs.Bytes.{everywhere, decimalFrom, isCount, countOf}
-use Rattle.table_layout.specs.Layout.{fault, lineFault, walk, rest, layoutOf, openedOf}
-use Rattle.table_marks.specs.Marks.{wordOf, rowsFrom}
-use Rattle.table_marks.specs.Complete.{completeFrom}
+use Rattle.table_kinds.specs.Kinds.{fault}
+use Rattle.table_walk.specs.Walk.{lineFault, walk, rest}
+use Rattle.table_layout.specs.Layout.{layoutOf, openedOf}
+use Rattle.table_rows.specs.Rows.{wordOf, rowsFrom}
+use Rattle.complete_tables.specs.Complete.{completeFrom}
 use Rattle.text.specs.Text.{digits, setText}
 use Rattle.output_lines.specs.Lines.{listLines}
 use Rattle.transcript.specs.Output.{answered, beat, beats, outputWith}
 use Rattle.transcript.specs.Example.{Example}
 
 pub example : Example
-unfolding full without inside meets fire pass close closure nextBelow lowest anywhere has lacks refutes firstRefuting markedTwice contradicts cut narrow reach standing questionStands firstFailing badLength strange outsideM sessionChecks yesChecks noChecks performStep performed checksOf perform opening lineOf everywhere decimalFrom isCount countOf fault lineFault walk rest layoutOf openedOf wordOf rowsFrom completeFrom digits setText listLines answered beat beats outputWith
+unfolding full without inside meets fire pass close closure fits nextBelow lowest anywhere has lacks refutes firstRefuting markedTwice contradicts cut narrow reach standing questionStands firstFailing badLength strange outsideM sessionChecks yesChecks noChecks performStep performed checksOf perform opening lineOf everywhere decimalFrom isCount countOf fault lineFault walk rest layoutOf openedOf wordOf rowsFrom completeFrom digits setText listLines answered beat beats outputWith
 example = record { whole = refl; refused = refl }

@@ -12,12 +12,11 @@ use borrow.Author.Tests.{leb-false}
 use Rattle.theory.specs.Implications.{Implication}
 use Rattle.attribute_set.specs.Sets.{full}
 use Rattle.attribute_set.specs.Lectic.Rank.{rank, rank-lt, rank-before}
-use Rattle.implication.specs.Next.{next}
-use Rattle.implication.specs.Next.Laws.{next-is}
+use Rattle.next_set.specs.Next.Laws.{next-is}
 use Rattle.context.specs.Objects.{Object, object, firstRefuting}
 use Rattle.machine.specs.Checks.{Lent, State, force, question, withQuestion, sessionChecks, noChecks}
 use Rattle.machine.specs.Checks.Laws.{passed-append}
-use Rattle.machine.specs.Machine.{step, accept, reject, Turn, moveTo, afterYes, afterNo, performStep, performed, checksOf, perform, opened, opening}
+use Rattle.machine.specs.Machine.{step, accept, reject, Turn, afterMove, afterYes, afterNo, performStep, performed, checksOf, perform, opened, opening}
 use Rattle.machine.specs.Machine.Laws.{perform-cases, perform-accepted, step-cases}
 use Rattle.machine.specs.Demand3.Invariant.{Reached, perform-reached, opened-reached}
 use Rattle.transcript.specs.Output.{Beat, more, last, replied, answered, stepped, beat, beats, lastWithin, enough}
@@ -40,7 +39,7 @@ pub record Falls (s s′ : State) : Type 0 where
   pub less : measure s′ < measure s
 
 module _ (s : State) (h : Reached s) (open′ : s .current ≡ full (s .n) → ⊥) where
-  move-falls : (c : Reached (moveTo s (next (force s) (s .n) (s .current)))) → Falls s (moveTo s (next (force s) (s .n) (s .current)))
+  move-falls : (c : Reached (afterMove s)) → Falls s (afterMove s)
   unfolding measure
   move-falls c =
       let t = next-is (force s) (s .n) (s .current) (h .over) (h .explored .here .base .inside) open′ in

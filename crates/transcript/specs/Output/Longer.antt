@@ -14,7 +14,7 @@ use Rattle.machine.specs.Checks.{Lent}
 use Rattle.table_layout.specs.Layout.{mostBytes}
 use Rattle.table_layout.specs.Layout.Laws.{opened-long}
 use Rattle.table_layout.specs.declared.Opened.{Opened}
-use Rattle.table_marks.specs.Complete.{completeOf}
+use Rattle.complete_tables.specs.Complete.{completeOf}
 use Rattle.output_lines.specs.Lines.{refusalLine}
 use Rattle.transcript.specs.Output.{inputMost, written, outputWith, output}
 

@@ -1,0 +1,20 @@
+-- The sentences of the first number, of the last, and of numbers that no refusal has, by computing.
+use mathlib.Core.Path.{_≡_, refl}
+use mathlib.Core.List.{[]}
+use Rattle.refusal_words.specs.Words.{bytes, joined, lineNumber, sentence}
+
+pub sentence-1 : sentence 1 ≡ bytes "The session has no property, or more than 64: open it with 1 to 64."
+unfolding bytes joined lineNumber
+sentence-1 = refl
+
+pub sentence-29 : sentence 29 ≡ bytes "A mark is unknown, and complete tables are taken only: write X or a dot for it, or ask an expert in an interview."
+unfolding bytes joined lineNumber
+sentence-29 = refl
+
+pub sentence-13 : sentence 13 ≡ []
+unfolding bytes joined lineNumber
+sentence-13 = refl
+
+pub sentence-30 : sentence 30 ≡ []
+unfolding bytes joined lineNumber
+sentence-30 = refl

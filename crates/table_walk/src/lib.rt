@@ -1,0 +1,83 @@
+// The lines of a table file in order: the first one that is refused, or where they end.
+ghost use mathlib.Core.Path.{_≡_};
+ghost use mathlib.Core.List.{[], _∷_};
+ghost use lib.ListN.{length, replicate};
+ghost use Rattle.table_walk.specs.Walk.{walk, walkOn, rest, thenRest, placeOf};
+use table_kinds::Kind;
+
+// Lines in order: the first that is refused, or the offset where they end.
+pub enum Walk {
+    Failed(session::Refusal),
+    At(usize),
+}
+
+// One line of the kind: the refusal, or where the next line begins.
+pub fn walk_line(file: &[u8], at: usize, kind: Kind) -> Walk
+    ensures { λ r. ⌜ r ≡ walk (kind ∷ []) (now (file .entry)) at ⌝ }
+{
+    if file.len() <= at {
+        return Walk::Failed(session::refuse(table_kinds::absent_of(kind), at));
+    }
+    let line = table_lines::line_at(file, at);
+    let end = at + line.size;
+    let number = table_kinds::fault_of(&file[at..end], kind);
+    if number != 0 {
+        return Walk::Failed(session::refuse(number, at));
+    }
+    Walk::At(at + line.step)
+}
+
+// After a walk, so many lines of a kind.
+pub fn walk_lines(file: &[u8], walked: Walk, kind: Kind, count: usize) -> Walk
+    ensures { λ r. ⌜ r ≡ walkOn walked (replicate count kind) (now (file .entry)) ⌝ }
+{
+    let mut w = walked;
+    let mut i = 0;
+    while i < count {
+        match w {
+            Walk::Failed(refusal) => {
+                return Walk::Failed(refusal);
+            }
+            Walk::At(at) => {
+                w = walk_line(file, at, kind);
+            }
+        }
+        i += 1;
+    }
+    w
+}
+
+// From an offset on, empty lines alone.
+fn rest_of(file: &[u8], at: usize) -> Walk
+    ensures { λ r. ⌜ r ≡ rest (length (now (file .entry))) (now (file .entry)) at ⌝ }
+{
+    let mut i = at;
+    while i < file.len() {
+        let line = table_lines::line_at(file, i);
+        if line.size != 0 {
+            return Walk::Failed(session::refuse(28, i));
+        }
+        i += line.step;
+    }
+    Walk::At(i)
+}
+
+// After the lines needed, empty lines alone.
+pub fn walk_rest(file: &[u8], walked: Walk) -> Walk
+    ensures { λ r. ⌜ r ≡ thenRest (now (file .entry)) walked ⌝ }
+{
+    match walked {
+        Walk::At(at) => rest_of(file, at),
+        Walk::Failed(refusal) => Walk::Failed(refusal),
+    }
+}
+
+// Where a walk ended, or where it failed.
+pub fn place_of(walked: Walk) -> usize
+    ensures { λ r. ⌜ r ≡ placeOf walked ⌝ }
+{
+    match walked {
+        Walk::At(at) => at,
+        Walk::Failed(refusal) => refusal.place,
+    }
+}

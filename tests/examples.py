@@ -1,0 +1,131 @@
+"""Runs both example programs through what a person can do and what can be refused, and checks what they say and their exit status.
+
+    python3 tests/examples.py PROGRAM...
+"""
+import os
+import random
+import subprocess
+import sys
+import tempfile
+
+PETS = "examples/tables/pets"
+
+
+def sentences():
+    """The sentences of the refusal numbers, as the library's source has them."""
+    with open("crates/refusal_words/src/lib.rt") as source:
+        text = source.read()
+    return text[text.index('b"') + 2:text.rindex('"')].split("\n")
+
+
+SENTENCES = sentences()
+
+
+def refused(number):
+    return f"Refused with {number}. {SENTENCES[number]}\n"
+
+
+def table(rows, properties, marks, head="B\ntitle\n"):
+    return head + f"{len(rows)}\n{len(properties)}\n\n" + "".join(line + "\n" for line in rows + properties + marks)
+
+
+class Runs:
+    def __init__(self, program, folder):
+        self.program, self.folder, self.count = program, folder, 0
+
+    def path(self, name, text):
+        path = os.path.join(self.folder, name)
+        with open(path, "wb") as out:
+            out.write(text if isinstance(text, bytes) else text.encode())
+        return path
+
+    def run(self, arguments, replies, status, out=None, err=None, part=None):
+        """One run; `out` is how standard output ends, `err` all of standard error, `part` a part of it."""
+        done = subprocess.run([self.program, *arguments], input=replies.encode(), capture_output=True)
+        said, wrong = done.stdout.decode(), done.stderr.decode()
+        fine = done.returncode == status
+        fine = fine and (out is None or said.endswith(out)) and (err is None or wrong == err) and (part is None or part in wrong)
+        if not fine:
+            sys.exit(f"{self.program} {arguments}: exit {done.returncode}, wanted {status}\n{said}\n{wrong}\nwanted {out!r} {err!r} {part!r}")
+        self.count += 1
+        return said
+
+
+def uses(runs):
+    usage = runs.run(["--help"], "", 0, err="")
+    assert usage.startswith("usage: interview ")
+    for arguments in [[], ["--log"], ["--color", PETS], [PETS, PETS], [PETS, "--background"]]:
+        runs.run(arguments, "", 2, out="", err=usage)
+    runs.run(["nowhere"], "", 2, err="nowhere: cannot be read\n")
+    runs.run([PETS, "--background", "nowhere"], "", 2, err="nowhere: cannot be read\n")
+    runs.run([PETS, "--log", "nowhere/log"], "", 2, err="nowhere/log: cannot be written\n")
+
+
+def files(runs):
+    good = table(["r"], ["p", "q"], ["X?"])
+    long = good + "\n" * 65536
+    wrong = {
+        21: (long, 1 + long[:65535].count("\n")),
+        22: ("b" + good[1:], 1),
+        23: (good.replace("\n2\n", "\ntwo\n"), 4),
+        24: (good.replace("\n2\n", "\n65\n"), 4),
+        25: (good.replace("title", "t" * 81), 2),
+        26: (good.replace("\np\n", "\n\n"), 7),
+        27: (good.replace("X?", "X"), 9),
+        28: (good + "more", 10),
+    }
+    for number, (text, line) in wrong.items():
+        path = runs.path(f"wrong{number}", text)
+        runs.run([path], "", 1, out="", err=f"{path}, line {line}: {refused(number)}")
+    for name, text in [("bom", "\ufeff" + good), ("utf16", good.encode("utf-16")), ("empty", ""), ("crs", good.replace("\n", "\r"))]:
+        runs.run([runs.path(name, text)], "", 1, out="", part=refused(22))
+
+
+def interviews(runs):
+    with open("tests/interview.replies") as replies, open("tests/interview.list") as wanted:
+        replies, wanted = replies.read(), wanted.read()
+    said = runs.run([PETS], replies, 0, out=wanted, err="Write yes, or no and 4 marks: X yes, . no, ? unknown.\n" + refused(10))
+    assert said.startswith("Does every row have breathes air? ") and "Does every row with flies have breathes air? " in said
+    loose = replies.replace("yes", " Y ").replace("no ", "N  ").replace("\n", "\r\n")
+    runs.run([PETS], loose.replace(" Y ", "YES", 1).rstrip("\r\n"), 0, out=wanted)
+    runs.run([PETS], "", 1, out="\n0 rules, 3 rows, not finished\n", err="")
+    runs.run([PETS], "no X...X\nyes please\n\n", 1, err="Write yes, or no and 4 marks: X yes, . no, ? unknown.\n" * 3)
+    lines = replies.splitlines(keepends=True)
+    log = os.path.join(runs.folder, "log")
+    runs.run([PETS, "--log", log], "".join(lines[:6]), 1, part=refused(10))
+    runs.run([PETS, "--log", log], "".join(lines[6:]), 0, out=wanted, err="")
+    runs.run([PETS, "--log", log], "", 0, out=wanted, err="")
+    other = runs.path("other", table(["r"], ["p", "q", "s", "t"], ["XXXX"]))
+    runs.run([other, "--log", log], "", 2, err=f"{log}: was written over another table or background\n")
+    runs.run(["examples/tables/triangles", "--log", runs.path("notes", "hello\n")], "", 2, part="notes: is no log of this table\n")
+
+
+def refusals(runs):
+    unsure = runs.path("unsure", table(["r"], ["a", "b", "c"], ["X?."]))
+    rules = runs.path("rules", "a -> b\n\n")
+    runs.run([unsure, "--background", runs.path("unknown", "a -> d\n")], "", 2, part="unknown, line 1: not a rule")
+    runs.run([unsure, "--background", runs.path("no-arrow", "a, b\n")], "", 2, part="no-arrow, line 1: not a rule")
+    runs.run([unsure, "--background", runs.path("against", "a -> b\r\nb -> c\r\n")], "", 1, err=refused(6)
+             + "It is row 1 (r): it has a, so by the rules it would have c, which it lacks.\n")
+    why = "It is row 1 (r): it has a, so by the rules it would have c, which it lacks.\n"
+    why += "It is itself a counterexample. If it is right, answer: no XX.\n"
+    runs.run([unsure, "--background", rules], "no X.?\n", 1, err=refused(11))
+    runs.run([unsure, "--background", rules], "no ...\nyes\nyes\nyes\nyes\n", 1, part=refused(11) + why)
+    full = runs.path("full", table([str(i) for i in range(512)], ["a", "b"], ["??"] * 512))
+    runs.run([full], "no .?\n", 1, err=refused(12))
+    source = random.Random(1)
+    marks = ["".join("X" if source.random() < 0.3 else "." for _ in range(14)) for _ in range(400)]
+    many = runs.path("many", table([f"row {i}" for i in range(400)], [f"property {i}" for i in range(14)], marks))
+    runs.run([many], "yes\n" * 257, 1, err=refused(12))
+
+
+def main():
+    for program in sys.argv[1:]:
+        with tempfile.TemporaryDirectory() as folder:
+            runs = Runs(os.path.abspath(program), folder)
+            for part in [uses, files, interviews, refusals]:
+                part(runs)
+            print(f"{program}: {runs.count} runs say what they have to")
+
+
+main()

@@ -1,0 +1,116 @@
+#!/usr/bin/env python3
+"""Runs the program on files with each refusal and each mistake, and checks what it says on standard error, beside the E line.
+
+    python3 tests/reports.py PROGRAM
+
+With nothing but a terminal on standard input it says how it is used.
+"""
+import os
+import pty
+import subprocess
+import sys
+
+import tables
+
+
+def sentences():
+    """The sentences of the refusal numbers, as the library's source has them."""
+    with open("crates/refusal_words/src/lib.rt") as source:
+        text = source.read()
+    return text[text.index('b"') + 2:text.rindex('"')].split("\n")
+
+
+SENTENCES = sentences()
+LONG = "n" * 81
+ROWS, PROPERTIES, MARKS = ["1", "2"], ["a", "b", "c"], ["XX.", ".X."]
+
+
+def table(rows=ROWS, properties=PROPERTIES, marks=MARKS, **others):
+    return tables.table(rows, properties, marks, **others)
+
+
+def lines(*texts):
+    return "\n".join(texts).encode()
+
+
+# number, place, the line and what is said of it, the file
+REFUSED = [
+    (21, 65535, "line 9: no more than 65,535 bytes expected", lines("B", "", "1", "1", "", "r", "p", "X", "") + b"z" * 65535),
+    (21, 65535, "line 65536: no more than 65,535 bytes expected", b"\n" * 70000),
+    (22, 0, "line 1: B alone expected; the file is empty", b""),
+    (22, 0, "line 1: B alone expected; the file begins with a byte-order mark", b"\xef\xbb\xbf" + table()),
+    (22, 0, "line 1: B alone expected; the file looks like UTF-16", b"\xff\xfe" + table().decode().encode("utf-16-le")),
+    (22, 0, "line 1: B alone expected; the file looks like UTF-16", b"\xfe\xff" + table().decode().encode("utf-16-be")),
+    (22, 0, "line 1: B alone expected; the lines end in carriage returns alone", table(end="\r")),
+    (22, 0, "line 1: B alone expected; the lines end in carriage returns alone", b"B\r"),
+    (22, 0, "line 1: B alone expected; it is a small b", b"b" + table()[1:]),
+    (22, 0, "line 1: B alone expected; it is a small b", b"b" + table(end="\r\n")[1:]),
+    (22, 0, "line 1: B alone expected; it is a small b", b"b"),
+    (22, 0, "line 1: B alone expected; the file looks like another format", b"<xml/>\n"),
+    (22, 0, "line 1: B alone expected; the file looks like another format", b"\n" + table()),
+    (22, 0, "line 1: B alone expected; the file looks like another format", b"bread\n"),
+    (22, 0, "line 1: B alone expected; the file looks like another format", b"\xef\xbb"),
+    (23, 3, "line 3: 1 to 4 digits expected", lines("B", "", "00002", "3")),
+    (23, 5, "line 4: 1 to 4 digits expected", lines("B", "", "2", "x")),
+    (23, 3, "line 3: 1 to 4 digits expected", b"B\n\n"),
+    (23, 4, "line 4: 1 to 4 digits expected", b"B\n\n2"),
+    (23, 5, "line 4: 1 to 4 digits expected", b"B\n\n2\n"),
+    (24, 3, "line 3: at most 512 rows, 1 to 64 properties expected", lines("B", "", "513", "3")),
+    (24, 5, "line 4: at most 512 rows, 1 to 64 properties expected", lines("B", "", "2", "65")),
+    (25, 2, "line 2: a title of at most 80 bytes, an empty line 5 expected", table(title=LONG)),
+    (25, 7, "line 5: a title of at most 80 bytes, an empty line 5 expected", lines("B", "", "2", "3", "row")),
+    (25, 1, "line 2: a title of at most 80 bytes, an empty line 5 expected", b"B"),
+    (26, 10, "line 7: a name of 1 to 80 bytes expected", table(rows=["1", ""])),
+    (26, 12, "line 8: a name of 1 to 80 bytes expected", table(properties=[LONG, "b", "c"])),
+    (27, 18, "line 11: 3 marks out of X x . ? expected", table(marks=["XX", ".X."])),
+    (27, 22, "line 12: 3 marks out of X x . ? expected", table(marks=["XX.", ".X.X"])),
+    (27, 22, "line 12: 3 marks out of X x . ? expected", table(marks=["XX."])),
+    (27, 21, "line 12: 3 marks out of X x . ? expected", table(marks=["XX."])[:-1]),
+    (27, 32, "line 11: 3 marks out of X x . ? expected", table(marks=["XX/", ".X."], end="\r\n", title="xxxx")),
+    (28, 27, "line 14: the end of the file expected", table() + b"\nX"),
+    (29, 22, "line 12: marks out of X x . expected", table(marks=["XX.", ".X?"])),
+]
+
+
+def run(program, file):
+    done = subprocess.run([program], input=file, capture_output=True)
+    return done.stdout.decode(), done.stderr.decode(), done.returncode
+
+
+def refusals(program):
+    for number, place, line, file in REFUSED:
+        wanted = f"E {number} {place}\n", f"{line}\n{SENTENCES[number]}\n", 0
+        found = run(program, file)
+        if found != wanted:
+            sys.exit(f"{file[:200]!r}\nfound  {found}\nwanted {wanted}")
+        assert len(found[1]) < 260
+    return len(REFUSED)
+
+
+def quiet(program):
+    """A complete table: nothing is said."""
+    for file in [table(), table(end="\r\n"), table()[:-1], tables.numbered(1, []), tables.costly(5)]:
+        out, err, status = run(program, file)
+        assert out.splitlines()[-1].startswith("END ") and err == "" and status == 0, (out, err)
+
+
+def full(program):
+    """Rows with one property each: every pair has all, and 276 rules have no place."""
+    out, err, status = run(program, tables.numbered(24, ["".join("X" if j == i else "." for j in range(24)) for i in range(24)]))
+    assert out.endswith("\nE 12 0\n") and err == SENTENCES[12] + "\n" and status == 0, (out, err)
+
+
+def terminal(program):
+    leader, follower = pty.openpty()
+    done = subprocess.run([program], stdin=follower, capture_output=True, timeout=10)
+    os.close(leader)
+    os.close(follower)
+    assert done.stdout == b"" and done.stderr.startswith(b"usage: explore < TABLE\n"), done
+
+
+if __name__ == "__main__":
+    count = refusals(sys.argv[1])
+    quiet(sys.argv[1])
+    full(sys.argv[1])
+    terminal(sys.argv[1])
+    print(f"{count} refused files explained, and a list that is full; a terminal gets the usage")
