@@ -1,0 +1,51 @@
+"""Holds the README's first screen to what the programs do: the table file, the program's output, the interview, the refusals in words.
+
+    python3 tests/readme.py EXPLORE INTERVIEW
+"""
+import re
+import subprocess
+import sys
+
+
+def blocks(text):
+    """The indented blocks of the README, without their indent."""
+    found = re.findall(r"(?:^    .*\n|^\n(?=    ))+", text, flags=re.M)
+    return [re.sub(r"^    ", "", block, flags=re.M).strip("\n") + "\n" for block in found]
+
+
+def run(program, arguments, given):
+    return subprocess.run([program, *arguments], input=given, capture_output=True, check=True).stdout
+
+
+def main():
+    explore, interview = sys.argv[1:]
+    with open("README.md") as readme:
+        text = readme.read()
+    shown = blocks(text)
+    with open("examples/tables/quadrilaterals", "rb") as table:
+        table = table.read()
+    written = run(explore, [], table).decode()
+    asked = next(block for block in shown if block.startswith("Does every row")).splitlines()
+    replies = [line.split("? ")[1] for line in asked if "? " in line]
+    held = run(interview, ["examples/tables/triangles"], "\n".join(replies).encode()).decode()
+    wanted = "".join(line.split("? ")[0] + "? " if "? " in line else line + "\n" for line in asked)
+    with open("crates/refusal_words/src/lib.rt") as source:
+        source = source.read()
+    sentences = source[source.index('b"') + 2:source.rindex('"')].split("\n")
+    rows = "".join(f"| {number} | {sentence} |\n" for number, sentence in enumerate(sentences) if sentence)
+    wrong = [
+        name
+        for name, fine in [
+            ("the table file", table.decode() in shown),
+            ("its output", written in shown),
+            ("the interview", held.replace("\n", "") == wanted.replace("\n", "")),
+            ("the refusals in words", rows in text),
+        ]
+        if not fine
+    ]
+    if wrong:
+        sys.exit(f"the README shows something else: {', '.join(wrong)}")
+    print("the README shows what the programs do")
+
+
+main()
