@@ -2,7 +2,9 @@
 use mathlib.Core.Path.{_≡_}
 use mathlib.Core.List.{List}
 use mathlib.Core.Bool.{true, false}
-use Prim.Native.Nat.{ℕ, _≤_}
+use Prim.Native.Nat.{ℕ, _+_, _-_, _≤_}
+use denote.Ref.{now}
+use lib.ListN.{length}
 use Rattle.text.specs.Page.{Buffer, Puts}
 use Rattle.handed_output.specs.declared.Handed.{Handed}
 use Rattle.handed_output.specs.declared.Told.{Told}
@@ -10,18 +12,24 @@ pub mod Laws
 
 -- nothing was handed over yet
 abbrev pub untold : Handed
-untold = record { to = 0; whole = true }
+untold = record { bytes = 0; whole = true }
 
--- the part of a buffer of so many bytes that begins where the last part ended is handed over; once a write has failed, none
+-- a number of bytes fits into a word
+abbrev pub mostCounted : ℕ
+mostCounted = 18446744073709551615
+
+-- the part of a buffer of so many bytes between two offsets is handed over, and counted as far as a word counts; once a write has failed,
+-- none is
 pub record HandsOver (size from to : ℕ) (before after : Handed) : Type 0 where
-  pub on : before .whole ≡ true → before .to ≡ from → from ≤ to → to ≤ size → after .to ≡ to
+  pub on : before .whole ≡ true → from ≤ to → to ≤ size → before .bytes + (to - from) ≤ mostCounted → after .bytes ≡ before .bytes + (to - from)
   pub ended : before .whole ≡ false → after ≡ before
 
--- all was handed over up to an offset; where a write has failed, at most so much
-pub record Hands (end : ℕ) (after : Handed) : Type 0 where
-  pub all : after .whole ≡ true → after .to ≡ end
-  pub within : after .to ≤ end
+-- so many were handed over in all; where a write has failed, at most so many
+pub record Hands (before : Handed) (bytes : ℕ) (after : Handed) : Type 0 where
+  pub all : after .whole ≡ true → after .bytes ≡ before .bytes + bytes
+  pub within : after .bytes ≤ before .bytes + bytes
 
--- the call writes this text from the start of the buffer, and hands all of it over
-abbrev pub Tells : Buffer → Told → List ℕ → Type 0
-Tells out r bytes = Puts out 0 (r .end) bytes × Hands (r .end) (r .handed)
+-- the call writes this text from the start of the buffer, and hands all of it over, where as many bytes as the buffer has can be counted
+abbrev pub Tells : Buffer → Handed → Told → List ℕ → Type 0
+Tells out before r bytes =
+    Puts out 0 (r .end) bytes × (before .bytes + length (now (out .entry)) ≤ mostCounted → Hands before (r .end) (r .handed))

@@ -1,13 +1,15 @@
-// The output handed over to be written, part by part as it becomes known. How far it went is kept, so that each part begins where
-// the one before it ended.
-ghost use mathlib.Core.Path.{_≡_};
+// The output handed over to be written, part by part as it becomes known. How many bytes went is counted, so that none goes twice and
+// none is left out.
 ghost use lib.ListN.{length};
 ghost use Rattle.output_lines.specs.Lines.{refusalLine};
-ghost use Rattle.handed_output.specs.Handing.{untold, HandsOver, Tells};
+ghost use Rattle.handed_output.specs.Handing.{HandsOver, Tells};
 
-// Up to which offset of the buffer the output was handed over, and whether every write took all of its part.
+// The most bytes that can be counted.
+const MOST: usize = 18446744073709551615;
+
+// How many bytes were handed over, and whether every write took all of its part.
 pub struct Handed {
-    pub to: usize,
+    pub bytes: usize,
     pub whole: bool,
 }
 
@@ -17,17 +19,11 @@ pub struct Told {
     pub handed: Handed,
 }
 
-// Nothing is handed over yet.
-pub fn nothing_handed() -> Handed
-    ensures { λ r. ⌜ r ≡ untold ⌝ }
-{
-    Handed { to: 0, whole: true }
-}
-
 // Hands over what stands in the buffer between two offsets. A write that failed is the last.
 pub fn hand_over(fd: i32, out: &[u8], from: usize, to: usize, before: Handed) -> Handed
     ensures { λ r. ⌜ HandsOver (length (now (out .entry))) from to before r ⌝ }
 {
+    let counted = before.bytes;
     let unbroken = before.whole;
     if to <= from {
         return before;
@@ -38,19 +34,22 @@ pub fn hand_over(fd: i32, out: &[u8], from: usize, to: usize, before: Handed) ->
     if out.len() < to {
         return before;
     }
+    if MOST - counted < to - from {
+        return before;
+    }
     let part = &out[from..to];
     let whole = io::write_all(fd, part);
     Handed {
-        to: from + part.len(),
+        bytes: counted + part.len(),
         whole,
     }
 }
 
 // The refusal line, handed over.
-pub fn write_refusal(refusal: session::Refusal, out: &mut [u8], fd: i32) -> Told
-    ensures { λ r. ⌜ Tells out r (refusalLine refusal) ⌝ }
+pub fn write_refusal(refusal: session::Refusal, out: &mut [u8], fd: i32, before: Handed) -> Told
+    ensures { λ r. ⌜ Tells out before r (refusalLine refusal) ⌝ }
 {
     let end = output_lines::put_refusal(out, 0, refusal.number, refusal.place as u64);
-    let handed = hand_over(fd, out, 0, end, nothing_handed());
+    let handed = hand_over(fd, out, 0, end, before);
     Told { end, handed }
 }

@@ -6,7 +6,7 @@ use denote.Ref.{now}
 use lib.ListN.{length, take}
 use Rattle.text.specs.Page.{page, text, Buffer}
 use Rattle.transcript.specs.Output.{inputMost, output}
-use Rattle.handed_output.specs.Handing.{Hands}
+use Rattle.handed_output.specs.Handing.{untold, Hands}
 use Rattle.handed_output.specs.declared.Told.{Told}
 pub mod Laws
 
@@ -17,7 +17,7 @@ pub mod Laws
 pub record WritesIn (before out : List ℕ) (r : Told) (bytes : List ℕ) : Type 0 where
   pub put : page out (r .end) ≡ text (page before 0) bytes
   pub written : take (r .end) out ≡ bytes
-  pub handed : Hands (length bytes) (r .handed)
+  pub handed : Hands untold (length bytes) (r .handed)
 
 abbrev pub Writes : Buffer → Told → List ℕ → Type 0
 Writes out r bytes = WritesIn (now (out .entry)) (now (out .exit)) r bytes

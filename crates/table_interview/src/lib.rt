@@ -28,14 +28,15 @@ fn run_beats(
     list: &mut [u64],
     out: &mut [u8],
     fd: i32,
+    before: handed_output::Handed,
 ) -> handed_output::Told
     requires { ⌜ Along (objectsOf objects (now table)) (holding start (now rows) (now list)) (start .changes) ⌝ }
     requires { ⌜ objects * 2 ≤ length (now table) ⌝ }
-    ensures { λ r. ⌜ Tells out r (remaining (tabled objects table) (held start rows list) (start .changes)) ⌝ }
+    ensures { λ r. ⌜ Tells out before r (remaining (tabled objects table) (held start rows list) (start .changes)) ⌝ }
 {
     let mut interview = start;
     let mut at = 0;
-    let mut handed = handed_output::nothing_handed();
+    let mut handed = before;
     loop {
         let beaten = interview_beat::advance(table, objects, rows, list, interview, out, at);
         let end = beaten.at;
@@ -57,13 +58,19 @@ fn interview_table(
     list: &mut [u64],
     out: &mut [u8],
     fd: i32,
+    before: handed_output::Handed,
 ) -> handed_output::Told
     requires { ⌜ Holds n objects (now table) ⌝ }
-    ensures { λ r. ⌜ Tells out r (interviewed (tabled objects table) (opening n (lent rows list) [] [])) ⌝ }
+    ensures { λ r. ⌜ Tells out before r (interviewed (tabled objects table) (opening n (lent rows list) [] [])) ⌝ }
 {
     let opened = session_opening::open(n, 0, rows, list, &table[..0]);
     match opened {
-        session_opening::Opened::Refused(refusal) => handed_output::write_refusal(refusal, out, fd),
+        session_opening::Opened::Refused(refusal) => handed_output::write_refusal(
+            refusal,
+            out,
+            fd,
+            before,
+        ),
         session_opening::Opened::Open(session) => {
             let start = interview_replies::Interview {
                 n: session.n,
@@ -72,7 +79,7 @@ fn interview_table(
                 current: session.current,
                 changes: 0,
             };
-            run_beats(table, objects, start, rows, list, out, fd)
+            run_beats(table, objects, start, rows, list, out, fd, before)
         }
     }
 }
@@ -93,9 +100,18 @@ pub fn hold(
     let mut list = [0u64; session::Session::RULES * 2];
     let row_words = implication::smaller(row_places, session::Session::ROWS) * 2;
     let list_words = implication::smaller(rule_places, session::Session::RULES) * 2;
+    let before = handed_output::Handed {
+        bytes: 0,
+        whole: true,
+    };
     let opened = table_marks::read_complete(file, &mut table);
     match opened {
-        table_layout::Opened::Refused(refusal) => handed_output::write_refusal(refusal, out, fd),
+        table_layout::Opened::Refused(refusal) => handed_output::write_refusal(
+            refusal,
+            out,
+            fd,
+            before,
+        ),
         table_layout::Opened::Found(layout) => interview_table(
             &table,
             layout.objects,
@@ -104,6 +120,7 @@ pub fn hold(
             &mut list[..list_words],
             out,
             fd,
+            before,
         ),
     }
 }

@@ -1,16 +1,13 @@
 -- What the call wrote lies in the buffer, and is handed over whole.
 use native.Mathlib.Omega.{arith}
 use Rattle.output_lines.specs.Lines.{refusalLine}
-use Rattle.handed_output.specs.Handing.Laws.{hands-none, hands-on, text-shown}
+use Rattle.handed_output.specs.Handing.Laws.{hands-none, hands-on, text-shown, text-kept}
 use borrow.Author.Needs.{needs}
 use Rattle.handed_output.proofs.write_refusal.Statement.{statement}
 use Rattle.handed_output.proofs.write_refusal.Tie as tie
 
--- the places: behind the call that says nothing is handed over yet; behind the line; the start
-abbrev counting : tie.After-hand-over → tie.After-nothing-handed
-counting c = c .before
-
-abbrev written : tie.After-nothing-handed → tie.After-put-refusal
+-- the places: behind the line, and the start
+abbrev written : tie.After-hand-over → tie.After-put-refusal
 written c = let known = c .before .before in known .before .before
 
 abbrev start : tie.After-put-refusal → tie.Start
@@ -18,18 +15,18 @@ start c = c .before .before .before
 
 returns : tie.Need-returns
 returns c =
-    let none = counting c .nothing-handed in
-    let d = written (counting c) in
+    let d = written c in
     let w = d .put-refusal in
     let a = start d .args in
+    let h = a .before in
     let inside = text-shown (a .out .now) _ (w .result) (refusalLine (a .refusal)) (w .ensures) in
-    (w .ensures, hands-on (none .result) (c .hand-over .result) 0 (w .result) _ (omega arith) (inside .1) (hands-none (none .result) (none .ensures)) (c .hand-over .ensures))
+    let same = text-kept (a .out .now) _ (w .result) (refusalLine (a .refusal)) (w .ensures) in
+    (w .ensures, λ fits. hands-on h h (c .hand-over .result) 0 (w .result) _ (omega arith) (inside .1) (omega (arith, same, fits)) (hands-none h) (c .hand-over .ensures))
 
 pub write-refusal-spec : {M : Type 1} → statement M
 write-refusal-spec =
     tie.close
     (tie.spec
-    (λ c κs. search needs)
     (λ c κs. search needs)
     (λ c κs. search needs)
     (λ c. search needs)

@@ -7,7 +7,7 @@ use lib.Dec.{lit≤}
 use Rattle.machine.specs.Checks.{mostObjects, mostImplications}
 use Rattle.interview_replies.specs.Places.{lentOf, placesFor, ReadComplete}
 use Rattle.interview_replies.specs.Places.Laws.{table-read, read-holds, words-taken, places-taken}
-use Rattle.table_interview.specs.Run.Laws.{room-holds, output-written, table-written}
+use Rattle.table_interview.specs.Run.Laws.{output-written, table-written}
 use borrow.Author.Needs.{needs}
 use Rattle.table_interview.proofs.hold.Statement.{statement}
 use Rattle.table_interview.proofs.hold.Tie as tie
@@ -81,7 +81,7 @@ returns c =
     let a = start (counted r) .args in
     let w = c .write-refusal in
     output-written (placesFor (a .row-places) (a .rule-places)) (a .file .now) (a .out .now) (w .last .1 .0) (w .result) _
-    (sym (d .opened .given .1) ∙ reads r .answer) (w .ensures) (room-holds _ (c .before .write-refusal-arg .given .0 .1))
+    (sym (d .opened .given .1) ∙ reads r .answer) (w .ensures) (c .before .write-refusal-arg .given .0 .1)
 
 returns-2 : tie.Need-returns-2
 returns-2 c =
@@ -93,7 +93,7 @@ returns-2 c =
     let w = held c .interview-table in
     table-written (lentOf (length (take (k .before .smaller .result * 2) row-words)) (length (take (k .smaller2 .result * 2) list-words)))
     (placesFor (a .row-places) (a .rule-places)) (a .file .now) (called .last .1 .0) (a .out .now) (w .last .1 .1 .1 .1 .1 .0) (w .result) (called .result) _
-    (reads r) (d .opened2 .given .1) (lent-here k) (w .ensures) (room-holds _ (held c .before .interview-table-arg .given .0 .1))
+    (reads r) (d .opened2 .given .1) (lent-here k) (w .ensures) (held c .before .interview-table-arg .given .0 .1)
 
 pub hold-spec : {M : Type 1} → statement M
 hold-spec =

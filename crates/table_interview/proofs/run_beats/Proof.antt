@@ -1,13 +1,13 @@
 -- Each beat keeps what the loop is about, and comes nearer to the end.
 use mathlib.Core.Path.{_≡_, refl, _∙_}
 use mathlib.Core.List.{List}
-use Prim.Native.Nat.{ℕ, _≤_}
+use Prim.Native.Nat.{ℕ, _+_, _≤_}
 use native.Mathlib.Omega.{arith}
 use lib.ListN.{length}
 use Rattle.context.specs.Objects.{Object, objectsOf}
 use Rattle.transcript.specs.Output.Ends.{measure}
 use Rattle.interview_replies.specs.Holding.{holding}
-use Rattle.handed_output.specs.Handing.{Hands}
+use Rattle.handed_output.specs.Handing.{mostCounted, Hands}
 use Rattle.handed_output.specs.Handing.Laws.{hands-none, hands-on}
 use Rattle.interview_beat.specs.Running.{remaining, Running, Turned, along-fits, running-start, turned}
 use borrow.Author.Needs.{needs}
@@ -19,18 +19,14 @@ Inv-loop table objects rows₀ list₀ out₀ fd interview₀ at₀ handed₀ ro
     let os = objectsOf objects table in
     Running os (remaining os (holding interview₀ rows₀ list₀) (interview₀ .changes)) out₀ interview rows list out at
     × (length rows ≡ length rows₀) × (length list ≡ length list₀) × (length out ≡ length out₀)
-    × Hands at handed
+    × (handed₀ .bytes + length out₀ ≤ mostCounted → Hands handed₀ at handed)
 
 abbrev μ-loop : tie.MeasureT-loop
 μ-loop table objects rows₀ list₀ out₀ fd interview₀ at₀ handed₀ rows list out interview at handed = measure (holding interview rows list)
 
--- the places: behind the call that says nothing is handed over yet, and the start; a turn of the loop, and its beat; the lent words
--- and the buffer behind it
-abbrev begun : tie.After-nothing-handed Inv-loop μ-loop → tie.Start Inv-loop μ-loop
-begun c = let known = c .before .before in known .before .before .before
-
+-- the places: the start; a turn of the loop, and its beat; the lent words and the buffer behind it
 abbrev start : tie.At-loop Inv-loop μ-loop → tie.Start Inv-loop μ-loop
-start c = begun (c .before)
+start c = let known = c .before .before in known .before .before .before
 
 abbrev turn : tie.After-advance Inv-loop μ-loop → tie.At-loop Inv-loop μ-loop
 turn c = c .before .before .before .before
@@ -71,19 +67,21 @@ comes c =
 
 loop-holds : tie.Need-loop-holds Inv-loop μ-loop
 loop-holds c =
-    let s = begun c in
+    let s = c .before .before .before .before in
     let a = s .args in
-    let none = c .nothing-handed in
-    (running-start (a .objects) (a .table .now) (a .start) (a .rows .now) (a .list .now) (s .pre .0) (a .out .now), refl, refl, refl, hands-none (none .result) (none .ensures))
+    (running-start (a .objects) (a .table .now) (a .start) (a .rows .now) (a .list .now) (s .pre .0) (a .out .now), refl, refl, refl, λ fits. hands-none (a .before))
 
 -- what was handed over with the beat's line
 hands : (c : tie.After-hand-over Inv-loop μ-loop)
-    → Hands (beaten (c .before) .advance .result .at) (c .hand-over .result)
-hands c =
+    → let b = beaten (c .before) in
+    let a = start (turn b) .args in
+    a .before .bytes + length (a .out .now) ≤ mostCounted → Hands (a .before) (b .advance .result .at) (c .hand-over .result)
+hands c fits =
     let b = beaten (c .before) in
     let l = turn b .loop in
     let w = comes b .within in
-    hands-on (l .handed) (c .hand-over .result) (l .at) (b .advance .result .at) _ (w .0) (w .1) (l .inv .4) (c .hand-over .ensures)
+    hands-on (start (turn b) .args .before) (l .handed) (c .hand-over .result) (l .at) (b .advance .result .at) _ (w .0) (w .1)
+    (omega (arith, out-left (c .before) .out .given, l .inv .3, fits)) (l .inv .4 fits) (c .hand-over .ensures)
 
 returns : tie.Need-returns Inv-loop μ-loop
 returns c = (comes (beaten (c .before .before)) .all (c .if1 .taken), hands (c .before))
@@ -104,7 +102,6 @@ run-beats-spec =
     (tie.spec
     Inv-loop
     μ-loop
-    (λ c κs. search needs)
     loop-holds
     (λ c κs. search needs)
     (λ c κs. search needs)

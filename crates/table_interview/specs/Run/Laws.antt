@@ -18,13 +18,9 @@ use Rattle.transcript.specs.Output.{interviewed, tableOf, written, outputWith, 
 use Rattle.transcript.specs.Output.Longer.{output-first}
 use Rattle.transcript.specs.Core.Program.{output-size}
 use Rattle.interview_replies.specs.Places.{ReadComplete}
-use Rattle.handed_output.specs.Handing.{Hands}
+use Rattle.handed_output.specs.Handing.{untold, mostCounted, Hands}
 use Rattle.handed_output.specs.declared.Told.{Told}
 use Rattle.table_interview.specs.Run.{WritesIn, AnswersIn}
-
--- the buffer for an output holds every output
-pub room-holds : (size : ℕ) → size ≡ outputMost → outputMost ≤ size
-room-holds size e = omega (arith, e)
 
 -- what a file gives, by what is found in it
 found-output : (lent : Lent) (file : List ℕ) (x : Opened) → x ≡ completeOf file (openedOf file) → written lent file x ≡ outputWith lent file
@@ -42,15 +38,15 @@ text-whole out out′ r bs e h =
 
 -- what is written is the file's output, and fits where the buffer holds every output
 pub output-written : (lent : Lent) (file out out′ : List ℕ) (r : Told) (x : Opened) → x ≡ completeOf file (openedOf file)
-    → (page out′ (r .end) ≡ text (page out 0) (written lent file x)) × Hands (r .end) (r .handed)
-    → outputMost ≤ length out → WritesIn out out′ r (outputWith lent file)
+    → (page out′ (r .end) ≡ text (page out 0) (written lent file x)) × (untold .bytes + length out ≤ mostCounted → Hands untold (r .end) (r .handed))
+    → length out ≡ outputMost → WritesIn out out′ r (outputWith lent file)
 output-written lent file out out′ r x e t h =
     let whole = t .0 ∙ ap (text (page out 0)) (found-output lent file x e) in
     let fits : length (outputWith lent file) ≤ length out = omega (arith, h, output-size lent file) in
     record {
       put = whole;
       written = text-whole out out′ (r .end) (outputWith lent file) whole fits;
-      handed = subst (λ (k : ℕ). Hands k (r .handed)) (text-end-at out out′ (r .end) (outputWith lent file) whole fits) (t .1);
+      handed = subst (λ (k : ℕ). Hands untold k (r .handed)) (text-end-at out out′ (r .end) (outputWith lent file) whole fits) (t .1 (omega (arith, h)));
     }
 
 -- an input whose first bytes are in the buffer
@@ -65,8 +61,8 @@ input-answered file before out size r e w = record {
 pub table-written : (lent lent′ : Lent) (file words out out′ : List ℕ) (r : Told) (x : Opened) (l : Layout)
     → ReadComplete file words x → x ≡ Found l → lent ≡ lent′
     → (page out′ (r .end) ≡ text (page out 0) (interviewed (objectsOf (l .objects) words) (opening (l .attributes) lent [] [])))
-    × Hands (r .end) (r .handed)
-    → outputMost ≤ length out → WritesIn out out′ r (outputWith lent′ file)
+    × (untold .bytes + length out ≤ mostCounted → Hands untold (r .end) (r .handed))
+    → length out ≡ outputMost → WritesIn out out′ r (outputWith lent′ file)
 table-written lent lent′ file words out out′ r x l h e p t =
     output-written lent′ file out out′ r (Found l) (sym e ∙ h .answer) (
       t .0 ∙ ap (λ os. text (page out 0) (interviewed os (opening (l .attributes) lent [] []))) (h .rows l e)
