@@ -1,7 +1,7 @@
 // The output handed over to be written, part by part as it becomes known. How many bytes went is counted, so that none goes twice and
 // none is left out.
 ghost use lib.ListN.{length};
-ghost use Rattle.output_lines.specs.Lines.{refusalLine};
+ghost use Rattle.closing_lines.specs.Closing.{refusalLine};
 ghost use Rattle.handed_output.specs.Handing.{HandsOver, Tells};
 
 // The most bytes that can be counted.
@@ -49,7 +49,7 @@ pub fn hand_over(fd: i32, out: &[u8], from: usize, to: usize, before: Handed) ->
 pub fn write_refusal(refusal: session::Refusal, out: &mut [u8], fd: i32, before: Handed) -> Told
     ensures { λ r. ⌜ Tells out before r (refusalLine refusal) ⌝ }
 {
-    let end = output_lines::put_refusal(out, 0, refusal.number, refusal.place as u64);
+    let end = closing_lines::put_refusal(out, 0, refusal.number, refusal.place as u64);
     let handed = hand_over(fd, out, 0, end, before);
     Told { end, handed }
 }

@@ -23,7 +23,7 @@ use Rattle.transcript.specs.Core.Kept.{core-along}
 use Rattle.interview_replies.specs.declared.Interview.{Interview}
 use Rattle.interview_replies.specs.declared.Beaten.{Beaten}
 use Rattle.interview_replies.specs.Holding.{holding, lineWritten, going, Leaves}
-use Rattle.interview_beat.specs.Beat.{Fits}
+use Rattle.table_replies.specs.Reply.{Fits}
 
 -- all that the interview still writes
 abbrev pub remaining : List Object → State → ℕ → List ℕ

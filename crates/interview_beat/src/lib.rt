@@ -1,48 +1,14 @@
 // One beat of an interview over a complete table (01: the program), below the checks: a step, and the table's reply where it asks.
-ghost use Rattle.interview_beat.specs.Beat.{Replies, WritesEnd, Advances};
+ghost use Rattle.interview_beat.specs.Beat.{WritesEnd, Advances};
 use interview_replies::Beaten;
 use interview_replies::Interview;
-
-// The reply to the question: no with the first row of the table that refutes it, else yes.
-fn reply(
-    table: &[u64],
-    objects: usize,
-    rows: &mut [u64],
-    list: &mut [u64],
-    interview: Interview,
-    conclusion: u64,
-    out: &mut [u8],
-    at: usize,
-) -> Beaten
-    ensures { λ r. ⌜ Replies objects table interview rows list conclusion out at r ⌝ }
-{
-    let place = context::first_refuting(table, objects, interview.current, conclusion);
-    let whole = implication::smaller(objects, table.len() / 2);
-    if place < whole {
-        let yes = table[place * 2];
-        let no = table[place * 2 + 1];
-        let number = place as u64 + 1;
-        return interview_replies::say_no(
-            rows,
-            list,
-            interview,
-            conclusion,
-            number,
-            yes,
-            no,
-            out,
-            at,
-        );
-    }
-    interview_replies::say_yes(rows, list, interview, conclusion, out, at)
-}
 
 // Finished: the list and the totals.
 fn finish(rows: &[u64], list: &[u64], interview: Interview, out: &mut [u8], at: usize) -> usize
     ensures { λ r. ⌜ WritesEnd interview rows list out at r ⌝ }
 {
     let end = output_lines::put_list(out, at, interview.n, list, interview.rules);
-    output_lines::put_end(
+    closing_lines::put_end(
         out,
         end,
         interview.rules as u64,
@@ -75,7 +41,7 @@ pub fn advance(
     let reach = reach::reach_of(n, rows, interview.rows, current);
     if reach != current {
         let conclusion = attribute_set::difference(reach, current);
-        return reply(table, objects, rows, list, interview, conclusion, out, at);
+        return table_replies::reply(table, objects, rows, list, interview, conclusion, out, at);
     }
     Beaten {
         interview: Interview {

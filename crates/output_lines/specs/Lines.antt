@@ -1,10 +1,9 @@
--- The lines of the program's output, as bytes (01, "The program"): Q, L, END and E lines, each closed by a line feed.
+-- The lines of the program's output that have a rule, as bytes (01, "The program"): Q and L lines, each closed by a line feed.
 use mathlib.Core.List.{List, [], _∷_, _++_}
 use Prim.Native.Nat.{ℕ, _/_, min}
 use lib.ListN.{length}
 use Rattle.theory.specs.Implications.{Implication}
 use Rattle.implication.specs.Closure.{implicationsOf}
-use Rattle.session.specs.declared.Refusal.{Refusal}
 use Rattle.text.specs.Text.{numberText, setText, space, newline}
 pub mod Laws
 
@@ -28,12 +27,3 @@ listLines n (r ∷ rs) = 76 ∷ 32 ∷ (ruleText n r ++ (newline ++ listLines n 
 -- the first count rules of a slice, as far as it has them whole
 abbrev pub wholeRules : ℕ → List ℕ → List (Implication ℕ)
 wholeRules count list = implicationsOf (min count (length list / 2)) list
-
--- `END`, rules, rows in use, changes of the current set
-abbrev pub endLine : ℕ → ℕ → ℕ → List ℕ
-endLine rules rows changes =
-    69 ∷ 78 ∷ 68 ∷ 32 ∷ (numberText rules ++ (space ++ (numberText rows ++ (space ++ (numberText changes ++ newline)))))
-
--- `E`, number and place
-abbrev pub refusalLine : Refusal → List ℕ
-refusalLine r = 69 ∷ 32 ∷ (numberText (r .number) ++ (space ++ (numberText (r .place) ++ newline)))

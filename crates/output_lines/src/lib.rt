@@ -1,10 +1,8 @@
-// The lines of the program's output, each written into a lent buffer from an offset on; the answer is the offset behind it.
+// The lines of the program's output that have a rule, each written into a lent buffer from an offset on; the answer is the offset behind it.
 ghost use mathlib.Core.List.{[], _∷_, _++_};
 ghost use Rattle.implication.specs.Closure.{implication};
-ghost use Rattle.session.specs.Refusals.{refusal};
 ghost use Rattle.text.specs.Page.{Puts};
-ghost use Rattle.text.specs.Text.{numberText};
-ghost use Rattle.output_lines.specs.Lines.{ruleText, yesLine, noLine, wholeRules, listLines, endLine, refusalLine};
+ghost use Rattle.output_lines.specs.Lines.{ruleText, yesLine, noLine, wholeRules, listLines};
 
 // Premise and conclusion, between the words in front of them and those behind.
 fn put_rule(
@@ -25,14 +23,6 @@ fn put_rule(
     text::put_bytes(out, concluded, behind)
 }
 
-// A number, and a byte behind it.
-fn put_number_then(out: &mut [u8], at: usize, number: u64, byte: u8) -> usize
-    ensures { λ r. ⌜ Puts out at r (numberText number ++ (byte ∷ [])) ⌝ }
-{
-    let numbered = text::put_number(out, at, number);
-    text::put_byte(out, numbered, byte)
-}
-
 // The line of a question answered yes.
 pub fn put_yes(out: &mut [u8], at: usize, n: usize, premise: u64, conclusion: u64) -> usize
     ensures { λ r. ⌜ Puts out at r (yesLine n (implication premise conclusion)) ⌝ }
@@ -45,7 +35,7 @@ pub fn put_no(out: &mut [u8], at: usize, n: usize, premise: u64, conclusion: u64
     ensures { λ r. ⌜ Puts out at r (noLine n (implication premise conclusion) row) ⌝ }
 {
     let refuted = put_rule(out, at, n, b"Q ", premise, conclusion, b" no ");
-    put_number_then(out, refuted, row, b'\n')
+    closing_lines::put_number_then(out, refuted, row, b'\n')
 }
 
 // The line of one rule of the list.
@@ -67,23 +57,4 @@ pub fn put_list(out: &mut [u8], at: usize, n: usize, list: &[u64], count: usize)
         i += 1;
     }
     to
-}
-
-// The line that ends the output: rules, rows in use, changes of the current set.
-pub fn put_end(out: &mut [u8], at: usize, rules: u64, rows: u64, changes: u64) -> usize
-    ensures { λ r. ⌜ Puts out at r (endLine rules rows changes) ⌝ }
-{
-    let named = text::put_bytes(out, at, b"END ");
-    let listed = put_number_then(out, named, rules, b' ');
-    let used = put_number_then(out, listed, rows, b' ');
-    put_number_then(out, used, changes, b'\n')
-}
-
-// The line of a refusal.
-pub fn put_refusal(out: &mut [u8], at: usize, number: u64, place: u64) -> usize
-    ensures { λ r. ⌜ Puts out at r (refusalLine (refusal number place)) ⌝ }
-{
-    let named = text::put_bytes(out, at, b"E ");
-    let numbered = put_number_then(out, named, number, b' ');
-    put_number_then(out, numbered, place, b'\n')
 }

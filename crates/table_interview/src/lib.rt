@@ -8,8 +8,8 @@ ghost use Rattle.handed_output.specs.Handing.{Tells};
 ghost use Rattle.transcript.specs.Output.{interviewed, outputWith};
 ghost use Rattle.transcript.specs.Core.Along.{Along};
 ghost use Rattle.interview_replies.specs.Holding.{holding, held};
-ghost use Rattle.interview_replies.specs.Places.{lent, placesFor, Holds};
-ghost use Rattle.interview_beat.specs.Beat.{tabled};
+ghost use Rattle.table_interview.specs.Places.{lent, placesFor, Holds};
+ghost use Rattle.table_replies.specs.Reply.{tabled};
 ghost use Rattle.interview_beat.specs.Running.{remaining};
 ghost use Rattle.table_interview.specs.Run.{Writes};
 

@@ -14,7 +14,8 @@ use Rattle.session.specs.declared.Refusal.{Refusal}
 use Rattle.session.specs.Refusals.{refusal}
 use Rattle.machine.specs.Checks.{State, reachOf, question}
 use Rattle.machine.specs.Machine.{afterMove, afterYes, afterNo}
-use Rattle.output_lines.specs.Lines.{yesLine, noLine, refusalLine}
+use Rattle.output_lines.specs.Lines.{yesLine, noLine}
+use Rattle.closing_lines.specs.Closing.{refusalLine}
 use Rattle.transcript.specs.Output.{Beat, more, last, closing}
 pub mod Cases
 pub mod Along

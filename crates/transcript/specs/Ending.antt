@@ -12,7 +12,8 @@ use Rattle.implication.specs.Closure.{follows}
 use Rattle.context.specs.Objects.{Object}
 use Rattle.context.specs.Tables.{AgreesImplication}
 use Rattle.machine.specs.Demand3.{OverM}
-use Rattle.output_lines.specs.Lines.{yesLine, noLine, listLines, endLine, refusalLine}
+use Rattle.output_lines.specs.Lines.{yesLine, noLine, listLines}
+use Rattle.closing_lines.specs.Closing.{endLine, refusalLine}
 use Rattle.transcript.specs.Core.{noPlace}
 
 -- just the implications that hold in the table follow from the list

@@ -16,7 +16,8 @@ use Rattle.complete_tables.specs.Complete.{completeOf}
 use Rattle.table_layout.specs.declared.Layout.{Layout}
 use Rattle.table_layout.specs.declared.Opened.{Opened}
 use Rattle.table_layout.specs.declared.Opened.the-variants.{Found, Refused}
-use Rattle.output_lines.specs.Lines.{yesLine, noLine, listLines, endLine, refusalLine}
+use Rattle.output_lines.specs.Lines.{yesLine, noLine, listLines}
+use Rattle.closing_lines.specs.Closing.{endLine, refusalLine}
 pub mod Ends
 pub mod Longer
 

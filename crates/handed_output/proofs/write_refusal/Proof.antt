@@ -1,6 +1,6 @@
 -- What the call wrote lies in the buffer, and is handed over whole.
 use native.Mathlib.Omega.{arith}
-use Rattle.output_lines.specs.Lines.{refusalLine}
+use Rattle.closing_lines.specs.Closing.{refusalLine}
 use Rattle.handed_output.specs.Handing.Laws.{hands-none, hands-on, text-shown, text-kept}
 use borrow.Author.Needs.{needs}
 use Rattle.handed_output.proofs.write_refusal.Statement.{statement}

@@ -1,4 +1,4 @@
--- The reply and the beat by their cases, as the code takes them.
+-- The beat by its cases, as the code takes them.
 use mathlib.Core.Path.{_≡_, refl, sym, ap, _∙_}
 use mathlib.Core.Bool.{true, false}
 use mathlib.Core.List.{List, [], _++_}
@@ -15,41 +15,16 @@ use Rattle.reach.specs.Reach.{reach}
 use Rattle.machine.specs.Checks.{force, reachOf}
 use Rattle.machine.specs.Machine.{moveTo}
 use Rattle.text.specs.Page.{Page, text}
-use Rattle.output_lines.specs.Lines.{wholeRules, listLines, endLine}
+use Rattle.output_lines.specs.Lines.{wholeRules, listLines}
+use Rattle.closing_lines.specs.Closing.{endLine}
 use Rattle.transcript.specs.Output.{last, closing}
 use Rattle.transcript.specs.Core.{counted, coreNo, coreYes, coreReply, coreBeat}
 use Rattle.interview_replies.specs.declared.Interview.{Interview}
 use Rattle.interview_replies.specs.Holding.{holding, Asks, Leaves}
 use Rattle.interview_replies.specs.Holding.Laws.{leaves-last, leaves-more}
-use Rattle.interview_beat.specs.Beat.{Fits}
+use Rattle.table_replies.specs.Reply.{Fits}
 
 module _ (i : Interview) (rows list : List ℕ) where
-  module _ (conclusion : ℕ) where
-    -- ---- the reply
-
-    module _ (objects : ℕ) (table : List ℕ) (fits : Fits i objects table rows list) (place whole : ℕ)
-        (first : place ≡ firstRefuting [] (objectsOf objects table) (implication (i .current) conclusion)) (w : whole ≡ min objects (length table / 2)) where
-      pub reply-no : place < whole
-          → coreReply (objectsOf objects table) (holding i rows list) (i .changes) (implication (i .current) conclusion)
-          ≡ coreNo (holding i rows list) (i .changes) (implication (i .current) conclusion) (place + 1) (object (getD table (place * 2) 0) (getD table (place * 2 + 1) 0))
-      unfolding coreReply
-      reply-no h =
-          let q = implication (i .current) conclusion in
-          let l : place < length (objectsOf objects table) = omega (arith, length-pairs object objects table) in
-          let r : place < objects = omega arith in
-          let at : coreReply (objectsOf objects table) (holding i rows list) (i .changes) q
-          ≡ coreNo (holding i rows list) (i .changes) q (place + 1) (getD (objectsOf objects table) place (object 0 0)) =
-          rw (first, coreReply, lt-ltb _ _ (rw first at l)) in
-          at ∙ ap (λ o. coreNo (holding i rows list) (i .changes) q (place + 1) o) (pairs-get object objects place table (object 0 0) r)
-
-      pub reply-yes : whole ≤ place
-          → coreReply (objectsOf objects table) (holding i rows list) (i .changes) (implication (i .current) conclusion)
-          ≡ coreYes (holding i rows list) (i .changes) (implication (i .current) conclusion)
-      unfolding coreReply
-      reply-yes h =
-          let l : length (objectsOf objects table) ≤ place = omega (arith, fits .in-table, length-pairs object objects table) in
-          rw (coreReply, le-ltb _ _ (rw first at l))
-
   -- ---- the beat
 
   -- the end as the code writes it: counts for lengths, and only rules that the lent words have

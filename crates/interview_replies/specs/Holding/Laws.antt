@@ -17,7 +17,8 @@ use Rattle.session.specs.declared.Session.{Session}
 use Rattle.session_replies.specs.Answers.Laws.{yes-holds, no-holds}
 use Rattle.text.specs.Page.{Page, text}
 use Rattle.text.specs.Page.Laws.{text-on}
-use Rattle.output_lines.specs.Lines.{yesLine, noLine, refusalLine}
+use Rattle.output_lines.specs.Lines.{yesLine, noLine}
+use Rattle.closing_lines.specs.Closing.{refusalLine}
 use Rattle.transcript.specs.Output.{Beat, more, last}
 use Rattle.transcript.specs.Core.{counted, noPlace, coreNo, coreYes}
 use Rattle.interview_replies.specs.declared.Interview.{Interview}

@@ -5,8 +5,8 @@ use Prim.Native.Nat.{ℕ, _*_}
 use lib.ListN.{length, take, replicate, length-replicate}
 use lib.Dec.{lit≤}
 use Rattle.machine.specs.Checks.{mostObjects, mostImplications}
-use Rattle.interview_replies.specs.Places.{lentOf, placesFor, ReadComplete}
-use Rattle.interview_replies.specs.Places.Laws.{table-read, read-holds, words-taken, places-taken}
+use Rattle.table_interview.specs.Places.{lentOf, placesFor, ReadComplete}
+use Rattle.table_interview.specs.Places.Laws.{table-read, read-holds, words-taken, places-taken}
 use Rattle.table_interview.specs.Run.Laws.{output-written, table-written}
 use borrow.Author.Needs.{needs}
 use Rattle.table_interview.proofs.hold.Statement.{statement}

@@ -9,8 +9,8 @@ use Rattle.session_opening.specs.declared.Opened.{Opened}
 use Rattle.text.specs.Page.{Page, page, text}
 use Rattle.transcript.specs.Output.{interviewed}
 use Rattle.transcript.specs.Core.Kept.{opened-along}
-use Rattle.interview_replies.specs.Places.{lentOf}
-use Rattle.interview_replies.specs.Places.Laws.{opening-found}
+use Rattle.table_interview.specs.Places.{lentOf}
+use Rattle.table_interview.specs.Places.Laws.{opening-found}
 use borrow.Author.Needs.{needs}
 use Rattle.table_interview.proofs.interview_table.Statement.{statement}
 use Rattle.table_interview.proofs.interview_table.Tie as tie

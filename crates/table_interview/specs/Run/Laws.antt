@@ -17,7 +17,7 @@ use Rattle.text.specs.Page.Laws.{text-at, text-fits}
 use Rattle.transcript.specs.Output.{interviewed, tableOf, written, outputWith, inputMost, outputMost, output}
 use Rattle.transcript.specs.Output.Longer.{output-first}
 use Rattle.transcript.specs.Core.Program.{output-size}
-use Rattle.interview_replies.specs.Places.{ReadComplete}
+use Rattle.table_interview.specs.Places.{ReadComplete}
 use Rattle.handed_output.specs.Handing.{untold, mostCounted, Hands}
 use Rattle.handed_output.specs.declared.Told.{Told}
 use Rattle.table_interview.specs.Run.{WritesIn, AnswersIn}

@@ -30,7 +30,8 @@ use Rattle.machine.specs.Machine.{Call, step, accept, reject, taken, turn, afte
 use Rattle.machine.specs.Machine.Laws.{perform-refused, perform-accepted, step-cases}
 use Rattle.machine.specs.Facts.Laws.{standing-question}
 use Rattle.machine.specs.Demand3.Invariant.{with-over}
-use Rattle.output_lines.specs.Lines.{yesLine, noLine, listLines, endLine, refusalLine}
+use Rattle.output_lines.specs.Lines.{yesLine, noLine, listLines}
+use Rattle.closing_lines.specs.Closing.{endLine, refusalLine}
 use Rattle.transcript.specs.Output.{Beat, more, last, replied, answered, stepped, beat}
 use Rattle.transcript.specs.Core.{counted, noPlace, coreNo, coreYes, coreReply, coreBeat}
 use Rattle.transcript.specs.Core.Along.{Differ, Along, in-familiar, or-none, own-row, row-in, agrees-force, row-consistent, session-passes}

@@ -9,7 +9,8 @@ use Rattle.context.specs.Objects.{object, has, lacks, refutes, firstRefuting}
 use Rattle.reach.specs.Reach.{cut, narrow, reach}
 use Rattle.machine.specs.Checks.{State}
 use Rattle.machine.specs.Traps.{state, bare}
-use Rattle.output_lines.specs.Lines.{yesLine, noLine, refusalLine}
+use Rattle.output_lines.specs.Lines.{yesLine, noLine}
+use Rattle.closing_lines.specs.Closing.{refusalLine}
 use Rattle.transcript.specs.Output.{more, last, closing}
 use Rattle.transcript.specs.Core.{noPlace, coreNo, coreYes, coreReply, coreBeat}
 

@@ -22,7 +22,8 @@ use Rattle.machine.specs.Machine.{step, finished, performed, checksOf, opening,
 use Rattle.machine.specs.Machine.Laws.{perform-accepted, step-cases, opened-is}
 use Rattle.machine.specs.Demand3.{OverM, Finished}
 use Rattle.machine.specs.Demand3.Theorem.{decided, shortest, unrefuted-by}
-use Rattle.output_lines.specs.Lines.{yesLine, noLine, listLines, endLine, refusalLine}
+use Rattle.output_lines.specs.Lines.{yesLine, noLine, listLines}
+use Rattle.closing_lines.specs.Closing.{endLine, refusalLine}
 use Rattle.transcript.specs.Output.{Beat, more, last, beat, beats, enough}
 use Rattle.transcript.specs.Output.Ends.{measure, measure-enough, beat-falls}
 use Rattle.transcript.specs.Core.{counted, noPlace, coreNo, coreYes, coreReply, coreBeat}

@@ -16,7 +16,8 @@ use Rattle.machine.specs.Checks.Laws.{Stands, passed}
 use Rattle.machine.specs.Machine.{afterMove, afterYes, afterNo, opening, opened}
 use Rattle.machine.specs.Machine.Laws.{step-cases, opened-is}
 use Rattle.machine.specs.Demand3.Invariant.{Reached, with-over, moved-reached, yes-reached, no-reached, opened-reached}
-use Rattle.output_lines.specs.Lines.{yesLine, noLine, refusalLine}
+use Rattle.output_lines.specs.Lines.{yesLine, noLine}
+use Rattle.closing_lines.specs.Closing.{refusalLine}
 use Rattle.transcript.specs.Output.{Beat, more, last}
 use Rattle.transcript.specs.Core.{counted, noPlace, coreNo, coreYes, coreReply, coreBeat}
 use Rattle.transcript.specs.Core.Along.{Differ, Along, row-consistent}

@@ -29,7 +29,7 @@ use Rattle.session.specs.declared.Refusal.{Refusal}
 use Rattle.table_layout.specs.declared.Opened.{Opened}
 use Rattle.table_layout.specs.declared.Opened.the-variants.{Found, Refused}
 use Rattle.session.specs.Refusals.{refusal}
-use Rattle.output_lines.specs.Lines.{refusalLine}
+use Rattle.closing_lines.specs.Closing.{refusalLine}
 use Rattle.transcript.specs.Output.{beats, enough, tableOf, interviewed, written, outputWith, places, outputMost, output}
 use Rattle.transcript.specs.Ending.{Concluded, Full, ListFull}
 use Rattle.transcript.specs.Core.Kept.{opened-along}

@@ -13,7 +13,8 @@ use Rattle.context.specs.Objects.{Object}
 use Rattle.context.specs.Tables.{Table}
 use Rattle.machine.specs.Checks.{Lent, State}
 use Rattle.machine.specs.Machine.{opening, opened}
-use Rattle.output_lines.specs.Lines.{yesLine, refusalLine}
+use Rattle.output_lines.specs.Lines.{yesLine}
+use Rattle.closing_lines.specs.Closing.{refusalLine}
 use Rattle.transcript.specs.Output.{beats, enough}
 use Rattle.transcript.specs.Core.{noPlace}
 use Rattle.transcript.specs.Ending.{Concluded, Full, ListFull}

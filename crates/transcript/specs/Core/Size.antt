@@ -16,7 +16,8 @@ use Rattle.machine.specs.Checks.{State, badLength, mostAttributes, mostObjects,
 use Rattle.machine.specs.Checks.Laws.{or-false}
 use Rattle.machine.specs.Machine.{afterMove, afterYes, afterNo}
 use Rattle.text.specs.Text.{digits, numberText, setText}
-use Rattle.output_lines.specs.Lines.{ruleText, yesLine, noLine, listLines, endLine, refusalLine}
+use Rattle.output_lines.specs.Lines.{ruleText, yesLine, noLine, listLines}
+use Rattle.closing_lines.specs.Closing.{endLine, refusalLine}
 use Rattle.transcript.specs.Output.{Beat, more, last, beat, beats, outputMost}
 use Rattle.transcript.specs.Core.{counted, noPlace, coreNo, coreYes, coreReply, coreBeat}
 use Rattle.transcript.specs.Core.Along.{Along}

@@ -15,7 +15,7 @@ use Rattle.table_layout.specs.Layout.{mostBytes}
 use Rattle.table_layout.specs.Layout.Laws.{opened-long}
 use Rattle.table_layout.specs.declared.Opened.{Opened}
 use Rattle.complete_tables.specs.Complete.{completeOf}
-use Rattle.output_lines.specs.Lines.{refusalLine}
+use Rattle.closing_lines.specs.Closing.{refusalLine}
 use Rattle.transcript.specs.Output.{inputMost, written, outputWith, output}
 
 long-output : (lent : Lent) (file : List ℕ) → mostBytes < length file → outputWith lent file ≡ refusalLine (refusal 21 mostBytes)

@@ -1,10 +1,10 @@
 -- The first row of the table that refutes decides, and its words are the table's.
 use mathlib.Core.List.{[]}
 use Rattle.interview_replies.specs.Holding.Laws.{leaves-same}
-use Rattle.interview_beat.specs.Beat.Laws.{reply-no, reply-yes}
+use Rattle.table_replies.specs.Reply.Laws.{reply-no, reply-yes}
 use borrow.Author.Needs.{needs}
-use Rattle.interview_beat.proofs.reply.Statement.{statement}
-use Rattle.interview_beat.proofs.reply.Tie as tie
+use Rattle.table_replies.proofs.reply.Statement.{statement}
+use Rattle.table_replies.proofs.reply.Tie as tie
 
 -- the places: the start; where the row is found; behind the reply
 abbrev start : tie.After-first-refuting → tie.Start

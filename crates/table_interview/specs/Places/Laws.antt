@@ -20,7 +20,7 @@ use Rattle.complete_tables.specs.Complete.Laws.{complete-layout, complete-table
 use Rattle.table_layout.specs.declared.Layout.{Layout}
 use Rattle.table_layout.specs.declared.Opened.{Opened}
 use Rattle.table_layout.specs.declared.Opened.the-variants.{Found}
-use Rattle.interview_replies.specs.Places.{lentOf, placesFor, Holds, ReadComplete}
+use Rattle.table_interview.specs.Places.{lentOf, placesFor, Holds, ReadComplete}
 
 -- the opening with no rows and no background
 opening-from : (n : ℕ) (rows list : List ℕ) → openingFrom n 0 rows list [] ≡ opening n (lentOf (length rows) (length list)) [] []

@@ -1,8 +1,8 @@
 -- The number, then the byte.
 use Rattle.text.specs.Page.Laws.{text-on}
 use borrow.Author.Needs.{needs}
-use Rattle.output_lines.proofs.put_number_then.Statement.{statement}
-use Rattle.output_lines.proofs.put_number_then.Tie as tie
+use Rattle.closing_lines.proofs.put_number_then.Statement.{statement}
+use Rattle.closing_lines.proofs.put_number_then.Tie as tie
 
 returns : tie.Need-returns
 returns c =

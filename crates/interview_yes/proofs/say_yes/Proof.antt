@@ -1,10 +1,10 @@
 -- The Q line is written; then the refusal, or the question, which the place that is left takes.
 use native.Mathlib.Omega.{arith}
 use lib.ListN.{length-set}
 use Rattle.interview_replies.specs.Holding.Laws.{yes-full, yes-free}
 use borrow.Author.Needs.{needs}
-use Rattle.interview_replies.proofs.say_yes.Statement.{statement}
-use Rattle.interview_replies.proofs.say_yes.Tie as tie
+use Rattle.interview_yes.proofs.say_yes.Statement.{statement}
+use Rattle.interview_yes.proofs.say_yes.Tie as tie
 
 -- the places: the start; behind the Q line; behind the refusal; where a place is left
 abbrev start : tie.After-put-yes → tie.Start

@@ -1,10 +1,10 @@
 -- The Q line is written; then the refusal, or the row, which the place that is left takes.
 use native.Mathlib.Omega.{arith}
 use lib.ListN.{length-set}
 use Rattle.interview_replies.specs.Holding.Laws.{no-full, no-free}
 use borrow.Author.Needs.{needs}
-use Rattle.interview_replies.proofs.say_no.Statement.{statement}
-use Rattle.interview_replies.proofs.say_no.Tie as tie
+use Rattle.interview_no.proofs.say_no.Statement.{statement}
+use Rattle.interview_no.proofs.say_no.Tie as tie
 
 -- the places: the start; behind the Q line; behind the refusal
 abbrev start : tie.After-put-no → tie.Start
