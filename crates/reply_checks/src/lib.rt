@@ -84,7 +84,7 @@ pub fn check_yes(
     match standing {
         Standing::Open(question) => ask(
             question,
-            reply_tests::check_rule(
+            rule_tests::check_rule(
                 session,
                 rows,
                 list,
@@ -114,7 +114,7 @@ pub fn check_no(
     match standing {
         Standing::Open(question) => ask(
             question,
-            reply_tests::check_row(
+            row_tests::check_row(
                 session,
                 rows,
                 list,

@@ -1,8 +1,8 @@
-// Checks 9 to 12 of document 01, in its order: those of a no with an offered row, and of a yes, to a question that stands.
+// Checks 9 to 12 of document 01, in its order, of a no with an offered row to a question that stands.
 ghost use Rattle.implication.specs.Closure.{implication};
 ghost use Rattle.context.specs.Objects.{object};
 ghost use Rattle.machine.specs.Calls.{given};
-ghost use Rattle.reply_tests.specs.Tests.{BadRow, RowTested, RuleTested};
+ghost use Rattle.row_tests.specs.Tests.{BadRow, RowTested};
 
 // The tests of check 9: a row with an attribute outside M, or with one marked both ways.
 fn bad_row(n: usize, yes: u64, no: u64) -> bool
@@ -40,37 +40,6 @@ pub fn check_row(
         return size_checks::refused(11, 0);
     }
     if rows.len() / 2 <= used {
-        return size_checks::refused(12, 0);
-    }
-    size_checks::Verdict::Passed
-}
-
-// Checks 11 and 12 of a yes to the question with this premise and conclusion.
-pub fn check_rule(
-    session: session::Session,
-    rows: &[u64],
-    list: &[u64],
-    background: &[u64],
-    premise: u64,
-    conclusion: u64,
-) -> size_checks::Verdict
-    ensures { λ r. ⌜ RuleTested (given session rows list background) (implication premise conclusion) r ⌝ }
-{
-    let used = session.rows;
-    let rules = session.rules;
-    let row = mark_checks::first_contradiction(
-        rows,
-        used,
-        list,
-        rules,
-        background,
-        premise,
-        conclusion,
-    );
-    if row < used {
-        return size_checks::refused(11, row);
-    }
-    if list.len() / 2 <= rules {
         return size_checks::refused(12, 0);
     }
     size_checks::Verdict::Passed

@@ -16,8 +16,8 @@ use Rattle.context.specs.Objects.{Object, object, refutes, contradicts}
 use Rattle.machine.specs.Checks.{mostAttributes, State, Check, firstFailing, force, question, noChecks}
 use Rattle.machine.specs.Checks.Laws.{failing-nothing, failing-here, failing-later}
 use Rattle.machine.specs.Calls.{stateOf}
-use Rattle.reply_tests.proofs.check_row.Statement.{statement}
-use Rattle.reply_tests.proofs.check_row.Tie as tie
+use Rattle.row_tests.proofs.check_row.Statement.{statement}
+use Rattle.row_tests.proofs.check_row.Tie as tie
 
 abbrev start : tie.After-bad-row → tie.Start
 start c = c .before .before .before .before

@@ -7,8 +7,8 @@ use borrow.Author.Needs.{needs}
 use Rattle.attribute_set.specs.Sets.{full, meets}
 use Rattle.context.specs.Objects.{object, markedTwice}
 use Rattle.machine.specs.Checks.{mostAttributes, strange, strangeObject}
-use Rattle.reply_tests.proofs.bad_row.Statement.{statement}
-use Rattle.reply_tests.proofs.bad_row.Tie as tie
+use Rattle.row_tests.proofs.bad_row.Statement.{statement}
+use Rattle.row_tests.proofs.bad_row.Tie as tie
 
 -- the first test: an attribute outside M
 first : (c : tie.After-strange-pair)

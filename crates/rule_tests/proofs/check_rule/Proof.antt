@@ -18,8 +18,8 @@ use Rattle.context.specs.Objects.{object, contradicts}
 use Rattle.machine.specs.Checks.{State, question, withQuestion, yesChecks}
 use Rattle.machine.specs.Checks.Laws.{failing-nothing, failing-here, failing-later}
 use Rattle.machine.specs.Calls.{stateOf}
-use Rattle.reply_tests.proofs.check_rule.Statement.{statement}
-use Rattle.reply_tests.proofs.check_rule.Tie as tie
+use Rattle.rule_tests.proofs.check_rule.Statement.{statement}
+use Rattle.rule_tests.proofs.check_rule.Tie as tie
 
 abbrev start : tie.After-first-contradiction → tie.Start
 start c = c .before .before .before .before
