@@ -8,7 +8,7 @@ ghost use Rattle.session_steps.specs.Answers.{stepAnswer, followingAnswe
 pub enum Step {
     Finished,
     Moved,
-    Asked(reply_checks::Question),
+    Asked(standing::Question),
     Refused(session::Refusal),
 }
 
@@ -40,24 +40,24 @@ pub fn make_step(
 ) -> Stepped
     ensures { λ r. ⌜ Turns stepping session rows list background (stepAnswer (r .answer)) (r .session) (r .changed) ⌝ }
 {
-    let standing = reply_checks::find_standing(session, rows, list, background);
+    let standing = standing::find_standing(session, rows, list, background);
     match standing {
-        reply_checks::Standing::Refused(refusal) => Stepped {
+        standing::Standing::Refused(refusal) => Stepped {
             answer: Step::Refused(refusal),
             session,
             changed: false,
         },
-        reply_checks::Standing::Full => Stepped {
+        standing::Standing::Full => Stepped {
             answer: Step::Finished,
             session,
             changed: false,
         },
-        reply_checks::Standing::Open(question) => Stepped {
+        standing::Standing::Open(question) => Stepped {
             answer: Step::Asked(question),
             session,
             changed: false,
         },
-        reply_checks::Standing::Tight => Stepped {
+        standing::Standing::Tight => Stepped {
             answer: Step::Moved,
             session: session::Session {
                 n: session.n,

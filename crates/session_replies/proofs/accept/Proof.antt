@@ -13,8 +13,8 @@ use Rattle.machine.specs.Machine.{accept, taken, turn, afterYes, checksOf, perf
 use Rattle.machine.specs.Machine.Laws.{perform-accepted, perform-refused}
 use Rattle.machine.specs.Calls.{stateOf}
 use Rattle.machine.specs.Calls.Laws.{performs, turns}
-use Rattle.reply_checks.specs.declared.Question.{Question}
-use Rattle.reply_checks.specs.Outcomes.{questionOf}
+use Rattle.standing.specs.declared.Question.{Question}
+use Rattle.standing.specs.Standings.{questionOf}
 use Rattle.reply_checks.specs.Outcomes.Laws.{asking-question, asking-refused}
 use Rattle.session_replies.specs.Answers.Laws.{yes-small, yes-holds, written}
 use Rattle.session_replies.proofs.accept.Statement.{statement}

@@ -12,9 +12,9 @@ use Rattle.machine.specs.Checks.{State, firstFailing, sessionChecks, reachOf, f
 use Rattle.machine.specs.Checks.Laws.{unasked, checked-small}
 use Rattle.machine.specs.Calls.{stateOf}
 use Rattle.size_checks.specs.Verdicts.{verdictOf}
-use Rattle.reply_checks.specs.Outcomes.Laws.{found-refused, found-full, found-tight, found-open}
-use Rattle.reply_checks.proofs.find_standing.Statement.{statement}
-use Rattle.reply_checks.proofs.find_standing.Tie as tie
+use Rattle.standing.specs.Standings.Laws.{found-refused, found-full, found-tight, found-open}
+use Rattle.standing.proofs.find_standing.Statement.{statement}
+use Rattle.standing.proofs.find_standing.Tie as tie
 
 abbrev start : tie.After-check-session → tie.Start
 start c = c .before .before .before .before
