@@ -16,7 +16,7 @@ pub fn check_rule(
 {
     let used = session.rows;
     let rules = session.rules;
-    let row = mark_checks::first_contradiction(
+    let row = contradictions::first_contradiction(
         rows,
         used,
         list,

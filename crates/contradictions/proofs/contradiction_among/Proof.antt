@@ -11,8 +11,8 @@ use Rattle.implication.specs.Closure.{implication, inForce}
 use Rattle.context.specs.Places.{lowest}
 use Rattle.context.specs.Objects.{Object, object, objectsOf, contradicts}
 use Rattle.context.specs.Places.Search.{pair-found, pair-passed, pair-none}
-use Rattle.mark_checks.proofs.contradiction_among.Statement.{statement}
-use Rattle.mark_checks.proofs.contradiction_among.Tie as tie
+use Rattle.contradictions.proofs.contradiction_among.Statement.{statement}
+use Rattle.contradictions.proofs.contradiction_among.Tie as tie
 
 -- the test of a row
 abbrev test : List ℕ → List ℕ → ℕ → ℕ → ℕ → Object → Bool

@@ -2,8 +2,8 @@
 use borrow.Author.Needs.{needs}
 use Rattle.attribute_set.specs.Sets.{meets}
 use Rattle.context.specs.Objects.{contradicts}
-use Rattle.mark_checks.proofs.contradiction.Statement.{statement}
-use Rattle.mark_checks.proofs.contradiction.Tie as tie
+use Rattle.contradictions.proofs.contradiction.Statement.{statement}
+use Rattle.contradictions.proofs.contradiction.Tie as tie
 
 returns : tie.Need-returns
 unfolding contradicts meets

@@ -7,9 +7,9 @@ use Rattle.implication.specs.Closure.{inForceWith}
 use Rattle.context.specs.Places.{lowest}
 use Rattle.context.specs.Objects.{Object, objectsOf, contradicts}
 use Rattle.context.specs.Objects.Laws.{whole, lowest-whole, lowest-none}
-use Rattle.mark_checks.specs.Marks.Laws.{blank-idle}
-use Rattle.mark_checks.proofs.first_contradiction.Statement.{statement}
-use Rattle.mark_checks.proofs.first_contradiction.Tie as tie
+use Rattle.contradictions.specs.Contradictions.Laws.{blank-idle}
+use Rattle.contradictions.proofs.first_contradiction.Statement.{statement}
+use Rattle.contradictions.proofs.first_contradiction.Tie as tie
 
 abbrev start : tie.After-smaller → tie.Start
 start c = c .before .before .before .before
