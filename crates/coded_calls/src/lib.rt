@@ -149,7 +149,7 @@ pub fn step(session: session::Session, rows: &[u64], list: &[u64], background: &
 pub fn accept(session: session::Session, rows: &[u64], list: &mut [u64], background: &[u64]) -> Turn
     ensures { λ r. ⌜ Turned codeOf accepting session rows list background (r .answer) (r .session) (r .changed) ⌝ }
 {
-    let made = session_replies::accept(session, rows, list, background);
+    let made = session_yes::accept(session, rows, list, background);
     let answer = made.answer;
     let after = made.session;
     Turn {
@@ -170,7 +170,7 @@ pub fn reject(
 ) -> Turn
     ensures { λ r. ⌜ Turned codeOf (rejecting (object yes no)) session rows list background (r .answer) (r .session) (r .changed) ⌝ }
 {
-    let made = session_replies::reject(session, rows, list, background, yes, no);
+    let made = session_no::reject(session, rows, list, background, yes, no);
     let answer = made.answer;
     let after = made.session;
     Turn {

@@ -34,7 +34,7 @@ pub fn accept(
     ensures { λ r. ⌜ PerformsOn accepting session rows list background (replyAnswer r) ⌝ }
 {
     let held = *session;
-    let turn = session_replies::accept(held, rows, list, background);
+    let turn = session_yes::accept(held, rows, list, background);
     if turn.changed {
         *session = turn.session;
     }
@@ -53,7 +53,7 @@ pub fn reject(
     ensures { λ r. ⌜ PerformsOn (rejecting (object yes no)) session rows list background (replyAnswer r) ⌝ }
 {
     let held = *session;
-    let turn = session_replies::reject(held, rows, list, background, yes, no);
+    let turn = session_no::reject(held, rows, list, background, yes, no);
     if turn.changed {
         *session = turn.session;
     }

@@ -16,9 +16,9 @@ use Rattle.machine.specs.Calls.Laws.{performs, turns}
 use Rattle.standing.specs.declared.Question.{Question}
 use Rattle.standing.specs.Standings.{questionOf}
 use Rattle.reply_checks.specs.Outcomes.Laws.{asking-question, asking-refused}
 use Rattle.session_replies.specs.Answers.Laws.{yes-small, yes-holds, written}
-use Rattle.session_replies.proofs.accept.Statement.{statement}
-use Rattle.session_replies.proofs.accept.Tie as tie
+use Rattle.session_yes.proofs.accept.Statement.{statement}
+use Rattle.session_yes.proofs.accept.Tie as tie
 
 abbrev start : tie.After-check-yes → tie.Start
 start c =

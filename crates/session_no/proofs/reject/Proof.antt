@@ -13,9 +13,9 @@ use Rattle.machine.specs.Machine.Laws.{perform-accepted, perform-refused}
 use Rattle.machine.specs.Calls.{stateOf}
 use Rattle.machine.specs.Calls.Laws.{performs, turns}
 use Rattle.reply_checks.specs.Outcomes.Laws.{asking-question, asking-refused}
 use Rattle.session_replies.specs.Answers.Laws.{no-small, no-holds}
-use Rattle.session_replies.proofs.reject.Statement.{statement}
-use Rattle.session_replies.proofs.reject.Tie as tie
+use Rattle.session_no.proofs.reject.Statement.{statement}
+use Rattle.session_no.proofs.reject.Tie as tie
 
 abbrev start : tie.After-check-no → tie.Start
 start c =
