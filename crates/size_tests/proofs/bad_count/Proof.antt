@@ -1,8 +1,8 @@
 -- The two tests are those of the definition.
 use native.Mathlib.Omega.{arith}
 use borrow.Author.Tests.{eq-eqb, ne-eqb}
-use Rattle.size_checks.proofs.bad_count.Statement.{statement}
-use Rattle.size_checks.proofs.bad_count.Tie as tie
+use Rattle.size_tests.proofs.bad_count.Statement.{statement}
+use Rattle.size_tests.proofs.bad_count.Tie as tie
 
 returns : tie.Need-returns
 returns c = rw (eq-eqb (c .before .args .n) 0 (omega arith))

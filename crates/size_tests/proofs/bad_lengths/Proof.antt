@@ -1,7 +1,7 @@
 -- The tests are the three of the definition in its order, each made only where those before it are false.
 use borrow.Author.Needs.{needs}
-use Rattle.size_checks.proofs.bad_lengths.Statement.{statement}
-use Rattle.size_checks.proofs.bad_lengths.Tie as tie
+use Rattle.size_tests.proofs.bad_lengths.Statement.{statement}
+use Rattle.size_tests.proofs.bad_lengths.Tie as tie
 
 returns : tie.Need-returns
 returns c = rw (← c .before .bad-length .ensures, c .if1 .taken)

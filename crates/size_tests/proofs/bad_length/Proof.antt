@@ -6,8 +6,8 @@ use native.Mathlib.Omega.{arith}
 use lib.Dec.{ltb}
 use borrow.Author.Tests.{eq-eqb, ne-eqb, ltb-true, ltb-false, lt-ltb, le-ltb}
 use Rattle.machine.specs.Checks.{badLength}
-use Rattle.size_checks.proofs.bad_length.Statement.{statement}
-use Rattle.size_checks.proofs.bad_length.Tie as tie
+use Rattle.size_tests.proofs.bad_length.Statement.{statement}
+use Rattle.size_tests.proofs.bad_length.Tie as tie
 
 places : (most words : ℕ) → words % 2 ≡ 0 → ltb most (words / 2) ≡ ltb (most * 2) words
 places most words even = go (ltb (most * 2) words) refl

@@ -2,8 +2,8 @@
 use Prim.Native.Nat.{_/_}
 use native.Mathlib.Omega.{arith}
 use borrow.Author.Tests.{lt-ltb, le-ltb}
-use Rattle.size_checks.proofs.bad_places.Statement.{statement}
-use Rattle.size_checks.proofs.bad_places.Tie as tie
+use Rattle.size_tests.proofs.bad_places.Statement.{statement}
+use Rattle.size_tests.proofs.bad_places.Tie as tie
 
 returns : tie.Need-returns
 returns c = let a = c .before .args in rw (lt-ltb (a .rows / 2) (a .used) (omega arith))
