@@ -4,7 +4,8 @@ ghost use Rattle.implication.specs.Closure.{implication};
 ghost use Rattle.context.specs.Objects.{object};
 ghost use Rattle.machine.specs.Machine.{step as stepping, accept as accepting, reject as rejecting, follow, refute, refused};
 ghost use Rattle.machine.specs.Calls.{Made, Turned};
-ghost use Rattle.session_steps.specs.Answers.{stepAnswer, followingAnswer, refutingAnswer};
+ghost use Rattle.session_steps.specs.Answers.{stepAnswer};
+ghost use Rattle.session_queries.specs.Answers.{followingAnswer, refutingAnswer};
 ghost use Rattle.session_replies.specs.Answers.{replyAnswer};
 ghost use Rattle.coded_calls.specs.Codes.{coded, codeOf, OpensCoded};
 
@@ -85,23 +86,23 @@ fn answer_of_reply(answer: session_replies::Reply) -> Answer
     }
 }
 
-fn answer_of_following(answer: session_steps::Following) -> Answer
+fn answer_of_following(answer: session_queries::Following) -> Answer
     ensures { λ r. ⌜ r ≡ codeOf (followingAnswer answer) ⌝ }
 {
     match answer {
-        session_steps::Following::Follows => in_words(Answer::FOLLOWS, 1, 0),
-        session_steps::Following::Lacking => in_words(Answer::FOLLOWS, 0, 0),
-        session_steps::Following::Refused(refusal) => answer_of_refusal(refusal),
+        session_queries::Following::Follows => in_words(Answer::FOLLOWS, 1, 0),
+        session_queries::Following::Lacking => in_words(Answer::FOLLOWS, 0, 0),
+        session_queries::Following::Refused(refusal) => answer_of_refusal(refusal),
     }
 }
 
-fn answer_of_refuting(answer: session_steps::Refuting) -> Answer
+fn answer_of_refuting(answer: session_queries::Refuting) -> Answer
     ensures { λ r. ⌜ r ≡ codeOf (refutingAnswer answer) ⌝ }
 {
     match answer {
-        session_steps::Refuting::By(row) => in_words(Answer::REFUTED, row as u64, 0),
-        session_steps::Refuting::Nothing => in_words(Answer::UNREFUTED, 0, 0),
-        session_steps::Refuting::Refused(refusal) => answer_of_refusal(refusal),
+        session_queries::Refuting::By(row) => in_words(Answer::REFUTED, row as u64, 0),
+        session_queries::Refuting::Nothing => in_words(Answer::UNREFUTED, 0, 0),
+        session_queries::Refuting::Refused(refusal) => answer_of_refusal(refusal),
     }
 }
 
@@ -149,7 +150,7 @@ pub fn step(session: session::Session, rows: &[u64], list: &[u64], background: &
 pub fn accept(session: session::Session, rows: &[u64], list: &mut [u64], background: &[u64]) -> Turn
     ensures { λ r. ⌜ Turned codeOf accepting session rows list background (r .answer) (r .session) (r .changed) ⌝ }
 {
-    let made = session_replies::accept(session, rows, list, background);
+    let made = session_yes::accept(session, rows, list, background);
     let answer = made.answer;
     let after = made.session;
     Turn {
@@ -170,7 +171,7 @@ pub fn reject(
 ) -> Turn
     ensures { λ r. ⌜ Turned codeOf (rejecting (object yes no)) session rows list background (r .answer) (r .session) (r .changed) ⌝ }
 {
-    let made = session_replies::reject(session, rows, list, background, yes, no);
+    let made = session_no::reject(session, rows, list, background, yes, no);
     let answer = made.answer;
     let after = made.session;
     Turn {
@@ -191,7 +192,7 @@ pub fn follows(
 ) -> Answer
     ensures { λ r. ⌜ Made codeOf (follow (implication premise conclusion)) session rows list background r session ⌝ }
 {
-    let answer = session_steps::follows(session, rows, list, background, premise, conclusion);
+    let answer = session_queries::follows(session, rows, list, background, premise, conclusion);
     answer_of_following(answer)
 }
 
@@ -206,6 +207,6 @@ pub fn refuted(
 ) -> Answer
     ensures { λ r. ⌜ Made codeOf (refute (implication premise conclusion)) session rows list background r session ⌝ }
 {
-    let answer = session_steps::refuted(session, rows, list, background, premise, conclusion);
+    let answer = session_queries::refuted(session, rows, list, background, premise, conclusion);
     answer_of_refuting(answer)
 }

@@ -5,10 +5,10 @@ use Rattle.session_steps.proofs.Step as Step
 use Rattle.session_steps.proofs.Step.Laws as Step′
 use Rattle.session_replies.proofs.Reply as Reply
 use Rattle.session_replies.proofs.Reply.Laws as Reply′
-use Rattle.session_steps.proofs.Following as Following
-use Rattle.session_steps.proofs.Following.Laws as Following′
-use Rattle.session_steps.proofs.Refuting as Refuting
-use Rattle.session_steps.proofs.Refuting.Laws as Refuting′
+use Rattle.session_queries.proofs.Following as Following
+use Rattle.session_queries.proofs.Following.Laws as Following′
+use Rattle.session_queries.proofs.Refuting as Refuting
+use Rattle.session_queries.proofs.Refuting.Laws as Refuting′
 use Rattle.session_steps.proofs.Stepped as Stepped
 use Rattle.session_replies.proofs.Replied as Replied
 use Rattle.session_steps.specs.declared.Stepped.{Stepped as SteppedD}

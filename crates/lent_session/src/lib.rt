@@ -4,7 +4,8 @@ ghost use Rattle.implication.specs.Closure.{implication};
 ghost use Rattle.context.specs.Objects.{object};
 ghost use Rattle.machine.specs.Machine.{step as stepping, accept as accepting, reject as rejecting, follow, refute};
 ghost use Rattle.machine.specs.Calls.{PerformsOn};
-ghost use Rattle.session_steps.specs.Answers.{stepAnswer, followingAnswer, refutingAnswer};
+ghost use Rattle.session_steps.specs.Answers.{stepAnswer};
+ghost use Rattle.session_queries.specs.Answers.{followingAnswer, refutingAnswer};
 ghost use Rattle.session_replies.specs.Answers.{replyAnswer};
 
 // Finished at M; the standing question; or a move to the next closed set.
@@ -34,7 +35,7 @@ pub fn accept(
     ensures { λ r. ⌜ PerformsOn accepting session rows list background (replyAnswer r) ⌝ }
 {
     let held = *session;
-    let turn = session_replies::accept(held, rows, list, background);
+    let turn = session_yes::accept(held, rows, list, background);
     if turn.changed {
         *session = turn.session;
     }
@@ -53,7 +54,7 @@ pub fn reject(
     ensures { λ r. ⌜ PerformsOn (rejecting (object yes no)) session rows list background (replyAnswer r) ⌝ }
 {
     let held = *session;
-    let turn = session_replies::reject(held, rows, list, background, yes, no);
+    let turn = session_no::reject(held, rows, list, background, yes, no);
     if turn.changed {
         *session = turn.session;
     }
@@ -68,10 +69,10 @@ pub fn follows(
     background: &[u64],
     premise: u64,
     conclusion: u64,
-) -> session_steps::Following
+) -> session_queries::Following
     ensures { λ r. ⌜ PerformsOn (follow (implication premise conclusion)) session rows list background (followingAnswer r) ⌝ }
 {
-    session_steps::follows(*session, rows, list, background, premise, conclusion)
+    session_queries::follows(*session, rows, list, background, premise, conclusion)
 }
 
 // Whether a row refutes an implication, with the first such row.
@@ -82,8 +83,8 @@ pub fn refuted(
     background: &[u64],
     premise: u64,
     conclusion: u64,
-) -> session_steps::Refuting
+) -> session_queries::Refuting
     ensures { λ r. ⌜ PerformsOn (refute (implication premise conclusion)) session rows list background (refutingAnswer r) ⌝ }
 {
-    session_steps::refuted(*session, rows, list, background, premise, conclusion)
+    session_queries::refuted(*session, rows, list, background, premise, conclusion)
 }

@@ -1,4 +1,4 @@
--- Demand 2 for the calls that run. `answer` is what `session_replies::accept` or `session_replies::reject` answers: its contract says that it is
+-- Demand 2 for the calls that run. `answer` is what `session_yes::accept` or `session_no::reject` answers: its contract says that it is
 -- the machine's. It is a refusal with 11 just if no complete table agrees with all rows in use, all rules in force and the reply.
 use mathlib.Core.Path.{_≡_, sym, _∙_}
 use mathlib.Core.Logic.{_↔_}

@@ -1,9 +1,9 @@
 -- The record is read, and the call by value is made.
 use contract.Running.{tablesOf}
 use Rattle.walks.specs.Instance.{id⊢, givenOf, tables, tripleOf, entered, cited}
-use Rattle.session_steps.proofs.refuted as core
-use Rattle.session_steps.proofs.refuted.Symbol as core-def
-use Rattle.session_steps.proofs.refuted.Met as core-thm
+use Rattle.session_queries.proofs.refuted as core
+use Rattle.session_queries.proofs.refuted.Symbol as core-def
+use Rattle.session_queries.proofs.refuted.Met as core-thm
 use Rattle.walks.specs.Lending.Asking.{asks}
 use Rattle.lent_session.proofs.Types.{session, refuting}
 use Rattle.lent_session.proofs.refuted.Key.{name as #own}
@@ -19,5 +19,5 @@ refuted-spec 𝓤 H 𝓜 𝓖 𝓡 =
     (asks session refuting 𝓤 H (𝓖 .A) (givenOf 𝓤 H 𝓜 𝓖) (f.clauses 𝓤 H (𝓖 .A) (𝓜 .mem) (𝓡 .run))
     (core.clauses 𝓤 H (𝓖 .A) (𝓜 .mem) (𝓡 .run)) core-def.name (tablesOf 𝓤 H 𝓜 (tables 𝓤 H 𝓜 𝓡 code.env))
     (cited 𝓤 H (tripleOf 𝓤 H (𝓖 .A) core.signature (core.spec 𝓤 H (𝓖 .A) (𝓜 .mem) (𝓡 .run))) 𝓜 𝓡 code.env core-def.name core-def.routine
-    code.calls-session-steps·refuted (core-thm.met 𝓤 H 𝓜 𝓖 𝓡))
+    code.calls-session-queries·refuted (core-thm.met 𝓤 H 𝓜 𝓖 𝓡))
     (λ κs a. tt) (λ κs a. id⊢ 𝓤 _) (λ κs a g r ws. id⊢ 𝓤 _))

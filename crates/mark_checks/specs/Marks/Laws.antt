@@ -1,5 +1,5 @@
 -- What checks 5 and 6 lean on: why a row that marks an attribute both ways contradicts too, why the empty implication contradicts nothing,
--- and why the rows that a slice has not do neither.
+-- and why the rows that a slice has not are not marked both ways.
 use mathlib.Core.Path.{_≡_, refl, sym, _∙_}
 use mathlib.Core.Bool.{Bool, true, false, true≢false}
 use mathlib.Core.List.{List, [], _∷_, _++_}
@@ -9,13 +9,14 @@ use native.Mathlib.Omega.{arith}
 use lib.ListN.{drop}
 use Rattle.theory.specs.Lists.Laws.{all-nil, all-cons}
 use Rattle.theory.specs.Implications.{Implication}
-use Rattle.attribute_set.specs.Sets.Laws.{lt-or-le, sub-refl, apart-sub, apart-meets, digit-none}
+use Rattle.attribute_set.specs.Sets.Laws.{lt-or-le, sub-refl, apart-sub, digit-none}
 use Rattle.implication.specs.Closure.{implication}
 use Rattle.implication.specs.Closure.Laws.{closure-least, closure-idle}
 use Rattle.context.specs.Places.{lowest}
 use Rattle.context.specs.Places.Search.{lowest-le, lowest-from}
 use Rattle.context.specs.Objects.{Object, object, objectsOf, markedTwice, contradicts}
 use Rattle.context.specs.Objects.Laws.{whole, lowest-whole, lowest-none, apart-marked, contradicts-apart}
+use Rattle.contradictions.specs.Contradictions.Laws.{blank-idle}
 
 -- the yes marks lie in their closure, so a row that marks an attribute both ways contradicts
 marked-contradicts : (rs : List (Implication ℕ)) (o : Object) → markedTwice o ≡ true → contradicts rs o ≡ true
@@ -44,12 +45,7 @@ lowest-idle rs os =
 marked-later : (rs : List (Implication ℕ)) (os : List Object) → lowest (contradicts rs) os ≤ lowest markedTwice os
 marked-later rs os = lowest-le (contradicts rs) markedTwice (marked-contradicts rs) os
 
--- a row without no marks contradicts nothing
-pub blank-idle : (rs : List (Implication ℕ)) (a : ℕ) → contradicts rs (object a 0) ≡ false
-unfolding contradicts
-blank-idle rs a = apart-meets (record { at = λ i h k. omega (arith, digit-none i) })
-
--- nor does it mark an attribute both ways
+-- a row without no marks marks no attribute both ways
 blank-once : (a : ℕ) → markedTwice (object a 0) ≡ false
 blank-once a = apart-marked (object a 0) (record { at = λ i h k. omega (arith, digit-none i) })
 

@@ -11,10 +11,12 @@ use Rattle.machine.specs.Checks.Laws.{checked-small}
 use Rattle.machine.specs.Machine.{Call, reject}
 use Rattle.machine.specs.Calls.{stateOf}
 use Rattle.size_checks.specs.Verdicts.{verdictOf}
-use Rattle.reply_checks.specs.declared.Question.{Question}
-use Rattle.reply_checks.specs.declared.Standing.{Standing}
-use Rattle.reply_checks.specs.Outcomes.{questionOf, askingAfter, asking}
-use Rattle.reply_checks.specs.Outcomes.Laws.{askingFrom, found-question, no-found}
+use Rattle.standing.specs.declared.Question.{Question}
+use Rattle.standing.specs.declared.Standing.{Standing}
+use Rattle.standing.specs.Standings.{questionOf}
+use Rattle.standing.specs.Standings.Laws.{found-question}
+use Rattle.reply_checks.specs.Outcomes.{askingAfter, asking}
+use Rattle.reply_checks.specs.Outcomes.Laws.{askingFrom, no-found}
 use Rattle.reply_checks.proofs.check_no.Statement.{statement}
 use Rattle.reply_checks.proofs.check_no.Tie as tie
 

@@ -8,7 +8,7 @@ use Rattle.machine.specs.Checks.{State, force}
 use Rattle.machine.specs.Machine.{step, turn, moved, moveTo, perform}
 use Rattle.machine.specs.Calls.{stateOf}
 use Rattle.machine.specs.Calls.Laws.{performs, turns}
-use Rattle.reply_checks.specs.declared.Standing.{Standing}
+use Rattle.standing.specs.declared.Standing.{Standing}
 use Rattle.session_steps.specs.Answers.Laws.{stepFrom, step-found, tight-small}
 use Rattle.session_steps.proofs.make_step.Statement.{statement}
 use Rattle.session_steps.proofs.make_step.Tie as tie

@@ -10,9 +10,9 @@ use Rattle.machine.specs.Checks.{State, firstFailing, sessionChecks, question, 
 use Rattle.machine.specs.Checks.Laws.{checked-small}
 use Rattle.machine.specs.Machine.{step, finished, moved, asked, refused, Turn, turn, afterMove, performStep, performed, checksOf, perform}
 use Rattle.machine.specs.Machine.Laws.{perform-refused, perform-accepted}
-use Rattle.reply_checks.specs.declared.Standing.{Standing as Found}
-use Rattle.reply_checks.specs.declared.Standing.the-variants.{Refused, Full, Tight, Open}
-use Rattle.reply_checks.specs.Outcomes.{questionOf, stood, foundAfter, found}
+use Rattle.standing.specs.declared.Standing.{Standing as Found}
+use Rattle.standing.specs.declared.Standing.the-variants.{Refused, Full, Tight, Open}
+use Rattle.standing.specs.Standings.{questionOf, stood, foundAfter, found}
 
 -- what a step does, by what was found
 abbrev pub stepFrom : State → Found → Turn
