@@ -15,8 +15,8 @@ use Rattle.machine.specs.Machine.{Call, step, accept, reject, follow, refute, p
 use Rattle.machine.specs.Calls.{stateOf, Words, Record, MadeFrom}
 use Rattle.session.specs.declared.Session.{Session}
 use Rattle.session.specs.Records.{sameSession}
-use Rattle.coded_calls.specs.Codes.{coded, codeOf, LentAnswer}
-use Rattle.coded_calls.specs.declared.Answer.{Answer as Coded}
+use Rattle.answer_words.specs.Codes.{coded, codeOf, LentAnswer}
+use Rattle.answer_words.specs.declared.Answer.{Answer as Coded}
 use Rattle.call_logs.specs.declared.Log.{Log}
 use Rattle.call_logs.specs.declared.Log.the-variants.{Replayed, Short}
 pub mod Laws

@@ -62,7 +62,7 @@ fn replay_one(
         };
     }
     coded_calls::Turn {
-        answer: coded_calls::in_words(coded_calls::Answer::UNKNOWN, 0, 0),
+        answer: answer_words::in_words(answer_words::Answer::UNKNOWN, 0, 0),
         session,
         changed: false,
     }
@@ -111,12 +111,12 @@ pub fn replay(
     }
 }
 
-fn answer_of_log(log: Log) -> coded_calls::Answer
+fn answer_of_log(log: Log) -> answer_words::Answer
     ensures { λ r. ⌜ r ≡ codeOfLog log ⌝ }
 {
     match log {
-        Log::Replayed => coded_calls::in_words(coded_calls::Answer::TAKEN, 0, 0),
-        Log::Short => coded_calls::in_words(coded_calls::Answer::NO_ROOM, 0, 0),
+        Log::Replayed => answer_words::in_words(answer_words::Answer::TAKEN, 0, 0),
+        Log::Short => answer_words::in_words(answer_words::Answer::NO_ROOM, 0, 0),
     }
 }
 

@@ -22,8 +22,8 @@ use Rattle.session.specs.declared.Session.{Session}
 use Rattle.session.specs.Choice.{chosen}
 use Rattle.session.specs.Records.{sameSession}
 use Rattle.session.specs.Records.Laws.{same-equal}
-use Rattle.coded_calls.specs.declared.Answer.{Answer as Coded}
-use Rattle.coded_calls.specs.Codes.{coded, codeOf}
+use Rattle.answer_words.specs.declared.Answer.{Answer as Coded}
+use Rattle.answer_words.specs.Codes.{coded, codeOf}
 use Rattle.call_logs.specs.Replay.{callOf, replayCode, replayAfter, ReplaysFrom, PastKept, LogWords, codeOfLog, ReplaySays}
 use Rattle.call_logs.specs.declared.Log.{Log}
 
