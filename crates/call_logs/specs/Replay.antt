@@ -1,43 +1,24 @@
 -- Logs of an interview: calls as three words each (kind, two arguments), answers as three words each (code, two values), and
 -- what the plain machine makes of a log. An unknown kind gets a code of its own and changes nothing.
 use mathlib.Core.Path.{_≡_}
-use mathlib.Core.Bool.{Bool, true, false, not}
+use mathlib.Core.Bool.{Bool, not}
 use mathlib.Core.List.{List, [], _∷_, _++_}
 use mathlib.Core.Option.{Option, none, some}
 use Prim.Native.Nat.{ℕ, zero, suc, _*_, _/_, _≤_, _<_}
 use denote.Ref.{now}
 use lib.ListN.{length, getD, drop}
-use lib.Dec.{eqb}
-use Rattle.implication.specs.Closure.{implication}
-use Rattle.context.specs.Objects.{object}
 use Rattle.machine.specs.Checks.{State}
-use Rattle.machine.specs.Machine.{Call, step, accept, reject, follow, refute, perform, run}
-use Rattle.machine.specs.Calls.{stateOf, Words, Record, MadeFrom}
+use Rattle.machine.specs.Machine.{Call, perform, run}
+use Rattle.machine.specs.Calls.{stateOf, Words, Record}
 use Rattle.session.specs.declared.Session.{Session}
 use Rattle.session.specs.Records.{sameSession}
-use Rattle.coded_calls.specs.Codes.{coded, codeOf, LentAnswer}
-use Rattle.coded_calls.specs.declared.Answer.{Answer as Coded}
+use Rattle.answer_words.specs.Codes.{coded, codeOf, LentAnswer}
+use Rattle.answer_words.specs.declared.Answer.{Answer as Coded}
+use Rattle.logged_calls.specs.Kinds.{callOf}
 use Rattle.call_logs.specs.declared.Log.{Log}
 use Rattle.call_logs.specs.declared.Log.the-variants.{Replayed, Short}
 pub mod Laws
 pub mod Loop
-
--- the kinds: 0 step, 1 yes, 2 no, 3 follows, 4 refuted
-unfoldable pub callOf : ℕ → ℕ → ℕ → Option Call
-callOf k a b =
-    elim (eqb k 0) [
-      | true ↦ some step
-      | false ↦ elim (eqb k 1) [
-        | true ↦ some accept
-        | false ↦ elim (eqb k 2) [
-          | true ↦ some (reject (object a b))
-          | false ↦ elim (eqb k 3) [
-            | true ↦ some (follow (implication a b))
-            | false ↦ elim (eqb k 4) [ true ↦ some (refute (implication a b)) | false ↦ none ]
-          ]
-        ]
-      ]
-    ]
 
 -- a log: the first n calls of a slice of words
 unfoldable pub callsOf : ℕ → List ℕ → List (Option Call)
@@ -52,15 +33,6 @@ replayCode s (some c) = codeOf (perform s c .answer)
 abbrev pub replayAfter : State → Option Call → State
 replayAfter s none = s
 replayAfter s (some c) = perform s c .after
-
--- What one call of a log promises: it is that call of the plain machine; a call of unknown kind changes nothing.
-abbrev pub ReplaysFrom : Option Call → Session → List ℕ → List ℕ → List ℕ → Coded → Session → List ℕ → List ℕ → Type 0
-ReplaysFrom none s rows list background x after rows′ list′ = (x ≡ coded 107 0 0) × ((after ≡ s) × ((rows′ ≡ rows) × (list′ ≡ list)))
-ReplaysFrom (some c) s rows list background x after rows′ list′ = MadeFrom codeOf c s rows list background x after rows′ list′
-
-abbrev pub ReplaysOne : Option Call → Session → Words → Words → Words → Coded → Session → Type 0
-ReplaysOne c s rows list background x after =
-    ReplaysFrom c s (now (rows .entry)) (now (list .entry)) (now (background .entry)) x after (now (rows .exit)) (now (list .exit))
 
 -- the calls of known kind
 unfoldable pub known : List (Option Call) → List Call

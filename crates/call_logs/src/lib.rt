@@ -1,6 +1,6 @@
 // Logs of calls: each call made through the call of its kind, its answer in three words written down.
 ghost use mathlib.Core.Path.{_≡_};
-ghost use Rattle.call_logs.specs.Replay.{callOf, codeOfLog, ReplaysOne, Replays, ReplaysCoded};
+ghost use Rattle.call_logs.specs.Replay.{codeOfLog, Replays, ReplaysCoded};
 
 pub enum Log {
     Replayed,
@@ -8,64 +8,9 @@ pub enum Log {
     Short,
 }
 
-impl Log {
-    // The kinds of calls.
-    pub const STEP: u64 = 0;
-
-    pub const YES: u64 = 1;
-
-    pub const NO: u64 = 2;
-
-    pub const FOLLOWS: u64 = 3;
-
-    pub const REFUTED: u64 = 4;
-}
-
 pub struct Replayed {
     pub log: Log,
     pub session: session::Session,
-}
-
-// One call of a log, made through the call of its kind.
-fn replay_one(
-    session: session::Session,
-    rows: &mut [u64],
-    list: &mut [u64],
-    background: &[u64],
-    kind: u64,
-    a: u64,
-    b: u64,
-) -> coded_calls::Turn
-    ensures { λ r. ⌜ ReplaysOne (callOf kind a b) session rows list background (r .answer) (r .session) ⌝ }
-{
-    if kind == Log::STEP {
-        return coded_calls::step(session, rows, list, background);
-    }
-    if kind == Log::YES {
-        return coded_calls::accept(session, rows, list, background);
-    }
-    if kind == Log::NO {
-        return coded_calls::reject(session, rows, list, background, a, b);
-    }
-    if kind == Log::FOLLOWS {
-        return coded_calls::Turn {
-            answer: coded_calls::follows(session, rows, list, background, a, b),
-            session,
-            changed: false,
-        };
-    }
-    if kind == Log::REFUTED {
-        return coded_calls::Turn {
-            answer: coded_calls::refuted(session, rows, list, background, a, b),
-            session,
-            changed: false,
-        };
-    }
-    coded_calls::Turn {
-        answer: coded_calls::in_words(coded_calls::Answer::UNKNOWN, 0, 0),
-        session,
-        changed: false,
-    }
 }
 
 // Makes each call of a log and writes down its answer; where the answers have no room for all, nothing is done.
@@ -89,7 +34,7 @@ pub fn replay(
     let mut current = session;
     let mut i = 0;
     while i < count {
-        let turn = replay_one(
+        let turn = logged_calls::replay_one(
             current,
             rows,
             list,
@@ -111,12 +56,12 @@ pub fn replay(
     }
 }
 
-fn answer_of_log(log: Log) -> coded_calls::Answer
+fn answer_of_log(log: Log) -> answer_words::Answer
     ensures { λ r. ⌜ r ≡ codeOfLog log ⌝ }
 {
     match log {
-        Log::Replayed => coded_calls::in_words(coded_calls::Answer::TAKEN, 0, 0),
-        Log::Short => coded_calls::in_words(coded_calls::Answer::NO_ROOM, 0, 0),
+        Log::Replayed => answer_words::in_words(answer_words::Answer::TAKEN, 0, 0),
+        Log::Short => answer_words::in_words(answer_words::Answer::NO_ROOM, 0, 0),
     }
 }
 

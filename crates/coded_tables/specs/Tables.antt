@@ -8,8 +8,8 @@ use denote.Triple.Both.{Both}
 use denote.Ref.{RefT, now}
 use lib.ListN.{length}
 use lib.Dec.{eqb}
-use Rattle.coded_calls.specs.declared.Answer.{Answer as Coded}
-use Rattle.coded_calls.specs.Codes.{coded, LentAnswer}
+use Rattle.answer_words.specs.declared.Answer.{Answer as Coded}
+use Rattle.answer_words.specs.Codes.{coded, LentAnswer}
 use Rattle.table_layout.specs.declared.Layout.{Layout}
 use Rattle.table_layout.specs.declared.Opened.{Opened}
 use Rattle.table_layout.specs.declared.Opened.the-variants.{Found, Refused}

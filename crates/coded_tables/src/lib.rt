@@ -7,7 +7,7 @@ ghost use Rattle.coded_tables.specs.Tables.{FindsTable, ReadsMarks, code
 
 // The answer to a call, the layout after it, and whether it differs from the one before.
 pub struct Found {
-    pub answer: coded_calls::Answer,
+    pub answer: answer_words::Answer,
     pub layout: table_layout::Layout,
     pub changed: bool,
 }
@@ -17,12 +17,12 @@ fn found_as(opened: table_layout::Opened, layout: table_layout::Layout) -> Found
 {
     match opened {
         table_layout::Opened::Found(table) => Found {
-            answer: coded_calls::in_words(coded_calls::Answer::TAKEN, 0, 0),
+            answer: answer_words::in_words(answer_words::Answer::TAKEN, 0, 0),
             layout: table,
             changed: true,
         },
         table_layout::Opened::Refused(refusal) => Found {
-            answer: coded_calls::answer_of_refusal(refusal),
+            answer: answer_words::answer_of_refusal(refusal),
             layout,
             changed: false,
         },
@@ -50,27 +50,31 @@ pub fn read_marks(
     layout: table_layout::Layout,
     file: &[u8],
     rows: &mut [u64],
-) -> coded_calls::Answer
+) -> answer_words::Answer
     ensures { λ r. ⌜ ReadsMarks layout file rows r ⌝ }
 {
     let opened = table_marks::read_marks_of(file, layout, rows);
     match opened {
-        table_layout::Opened::Found(_) => coded_calls::in_words(coded_calls::Answer::TAKEN, 0, 0),
-        table_layout::Opened::Refused(refusal) => coded_calls::answer_of_refusal(refusal),
+        table_layout::Opened::Found(_) => answer_words::in_words(answer_words::Answer::TAKEN, 0, 0),
+        table_layout::Opened::Refused(refusal) => answer_words::answer_of_refusal(refusal),
     }
 }
 
-fn answer_of_span(span: table_names::Span) -> coded_calls::Answer
+fn answer_of_span(span: table_names::Span) -> answer_words::Answer
     ensures { λ r. ⌜ r ≡ codeOfSpan span ⌝ }
 {
     if span.size == 0 {
-        return coded_calls::in_words(coded_calls::Answer::NO_ROOM, 0, 0);
+        return answer_words::in_words(answer_words::Answer::NO_ROOM, 0, 0);
     }
-    coded_calls::in_words(coded_calls::Answer::TAKEN, span.at as u64, span.size as u64)
+    answer_words::in_words(
+        answer_words::Answer::TAKEN,
+        span.at as u64,
+        span.size as u64,
+    )
 }
 
 // Where the name of an object stands in the file: its offset and how many bytes it has; 3 where there is no such name.
-pub fn object_name(layout: table_layout::Layout, file: &[u8], number: usize) -> coded_calls::Answer
+pub fn object_name(layout: table_layout::Layout, file: &[u8], number: usize) -> answer_words::Answer
     ensures { λ r. ⌜ r ≡ codeOfSpan (objectSpan (now (file .entry)) layout number) ⌝ }
 {
     answer_of_span(table_names::object_span(file, layout, number))
@@ -81,7 +85,7 @@ pub fn attribute_name(
     layout: table_layout::Layout,
     file: &[u8],
     number: usize,
-) -> coded_calls::Answer
+) -> answer_words::Answer
     ensures { λ r. ⌜ r ≡ codeOfSpan (attributeSpan (now (file .entry)) layout number) ⌝ }
 {
     answer_of_span(table_names::attribute_span(file, layout, number))

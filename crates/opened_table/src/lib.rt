@@ -4,7 +4,7 @@ ghost use lib.ListN.{length};
 ghost use Rattle.table_layout.specs.Layout.{openedOf};
 ghost use Rattle.table_marks.specs.Marks.{readingAs, rowWords};
 ghost use Rattle.opened_table.specs.Views.{Opens, OpensView, ObjectNamed, AttributeNamed};
-use coded_calls::Answer;
+use answer_words::Answer;
 use table_layout::Layout;
 use table_layout::Opened;
 

@@ -14,8 +14,8 @@ use Rattle.machine.specs.Machine.{opened, rejected}
 use Rattle.machine.specs.Replies.{Truthful}
 use Rattle.machine.specs.Demand3.{Finished}
 use Rattle.machine.specs.Calls.{stateOf, Words, Record, openingFrom}
-use Rattle.coded_calls.specs.declared.Answer.{Answer as Coded}
-use Rattle.coded_calls.specs.Codes.{coded, LentAnswer}
+use Rattle.answer_words.specs.declared.Answer.{Answer as Coded}
+use Rattle.answer_words.specs.Codes.{coded, LentAnswer}
 use Rattle.call_logs.specs.Replay.{LogWords, logWords, AllMade}
 use Rattle.saved_interview.specs.Demand3Whole.{Interview, opening-state, end-state, script, Demand3Whole, SameLists}
 use Rattle.saved_interview.specs.Trace.{Trace}

@@ -7,8 +7,8 @@ use Prim.Native.Nat.{ℕ, suc, _+_, _*_, _≤_, _<_}
 use lib.ListN.{length, getD, take}
 use Rattle.machine.specs.Checks.{State}
 use Rattle.machine.specs.Machine.{Call, step, accept, reject, follow, refute, run}
-use Rattle.coded_calls.specs.declared.Answer.{Answer as Coded}
-use Rattle.coded_calls.specs.Codes.{coded}
+use Rattle.answer_words.specs.declared.Answer.{Answer as Coded}
+use Rattle.answer_words.specs.Codes.{coded}
 use Rattle.call_logs.specs.Replay.{replayCode, replayAfter, known, logOf}
 use Rattle.saved_interview.specs.Demand3Whole.{Interview, opening-state, end-state}
 pub mod Proof

@@ -20,7 +20,7 @@ pub fn open_and_replay(
         session_opening::Opened::Open(start) => start,
         session_opening::Opened::Refused(refusal) => {
             return coded_calls::Turn {
-                answer: coded_calls::answer_of_refusal(refusal),
+                answer: answer_words::answer_of_refusal(refusal),
                 session,
                 changed: false,
             };
@@ -31,12 +31,12 @@ pub fn open_and_replay(
     let after = replayed.session;
     match log {
         call_logs::Log::Replayed => coded_calls::Turn {
-            answer: coded_calls::in_words(coded_calls::Answer::TAKEN, 0, 0),
+            answer: answer_words::in_words(answer_words::Answer::TAKEN, 0, 0),
             session: after,
             changed: true,
         },
         call_logs::Log::Short => coded_calls::Turn {
-            answer: coded_calls::in_words(coded_calls::Answer::NO_ROOM, 0, 0),
+            answer: answer_words::in_words(answer_words::Answer::NO_ROOM, 0, 0),
             session,
             changed: false,
         },

@@ -1,8 +1,8 @@
 -- The structs that are lent, and what the coded calls give back, as the walks take them.
 use Rattle.session.proofs.Session as T
 use Rattle.session.proofs.Session.Laws as T′
-use Rattle.coded_calls.proofs.Answer as N
-use Rattle.coded_calls.proofs.Answer.Laws as N′
+use Rattle.answer_words.proofs.Answer as N
+use Rattle.answer_words.proofs.Answer.Laws as N′
 use Rattle.coded_calls.proofs.Turn as S
 use Rattle.coded_calls.specs.declared.Turn.{Turn}
 use Rattle.table_layout.proofs.Layout as Y

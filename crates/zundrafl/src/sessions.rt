@@ -2,7 +2,7 @@
 ghost use Rattle.implication.specs.Closure.{implication};
 ghost use Rattle.context.specs.Objects.{object};
 ghost use Rattle.machine.specs.Machine.{step as stepping, accept as accepting, reject as rejecting, follow, refute};
-ghost use Rattle.coded_calls.specs.Codes.{AnswersOn, OpensOn};
+ghost use Rattle.coded_calls.specs.Openings.{AnswersOn, OpensOn};
 ghost use Rattle.call_logs.specs.Replay.{ReplaysOn};
 ghost use Rattle.saved_interview.specs.TakingUp.{TakesUpOn};
 
@@ -15,7 +15,7 @@ pub extern "C" fn zundrafl_open_session(
     rows: &[u64],
     list: &[u64],
     background: &[u64],
-    answer: &mut coded_calls::Answer,
+    answer: &mut answer_words::Answer,
 )
     ensures { λ _. ⌜ OpensOn n used session rows list background answer ⌝ }
 {
@@ -34,7 +34,7 @@ pub extern "C" fn zundrafl_step(
     rows: &[u64],
     list: &[u64],
     background: &[u64],
-    answer: &mut coded_calls::Answer,
+    answer: &mut answer_words::Answer,
 )
     ensures { λ _. ⌜ AnswersOn stepping session rows list background answer ⌝ }
 {
@@ -53,7 +53,7 @@ pub extern "C" fn zundrafl_accept(
     rows: &[u64],
     list: &mut [u64],
     background: &[u64],
-    answer: &mut coded_calls::Answer,
+    answer: &mut answer_words::Answer,
 )
     ensures { λ _. ⌜ AnswersOn accepting session rows list background answer ⌝ }
 {
@@ -74,7 +74,7 @@ pub extern "C" fn zundrafl_reject(
     background: &[u64],
     yes: u64,
     no: u64,
-    answer: &mut coded_calls::Answer,
+    answer: &mut answer_words::Answer,
 )
     ensures { λ _. ⌜ AnswersOn (rejecting (object yes no)) session rows list background answer ⌝ }
 {
@@ -95,7 +95,7 @@ pub extern "C" fn zundrafl_follows(
     background: &[u64],
     premise: u64,
     conclusion: u64,
-    answer: &mut coded_calls::Answer,
+    answer: &mut answer_words::Answer,
 )
     ensures { λ _. ⌜ AnswersOn (follow (implication premise conclusion)) session rows list background answer ⌝ }
 {
@@ -111,7 +111,7 @@ pub extern "C" fn zundrafl_refuted(
     background: &[u64],
     premise: u64,
     conclusion: u64,
-    answer: &mut coded_calls::Answer,
+    answer: &mut answer_words::Answer,
 )
     ensures { λ _. ⌜ AnswersOn (refute (implication premise conclusion)) session rows list background answer ⌝ }
 {
@@ -127,7 +127,7 @@ pub extern "C" fn zundrafl_replay(
     background: &[u64],
     calls: &[u64],
     answers: &mut [u64],
-    answer: &mut coded_calls::Answer,
+    answer: &mut answer_words::Answer,
 )
     ensures { λ _. ⌜ ReplaysOn session rows list background calls answers answer ⌝ }
 {
@@ -150,7 +150,7 @@ pub extern "C" fn zundrafl_open_and_replay(
     background: &[u64],
     calls: &[u64],
     answers: &mut [u64],
-    answer: &mut coded_calls::Answer,
+    answer: &mut answer_words::Answer,
 )
     ensures { λ _. ⌜ TakesUpOn n used session rows list background calls answers answer ⌝ }
 {

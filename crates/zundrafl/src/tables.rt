@@ -10,7 +10,7 @@ ghost use Rattle.coded_tables.specs.Tables.{OpensTableOn, ReadsMarks, codeOfSpa
 pub extern "C" fn zundrafl_open_table(
     layout: &mut table_layout::Layout,
     file: &[u8],
-    answer: &mut coded_calls::Answer,
+    answer: &mut answer_words::Answer,
 )
     ensures { λ _. ⌜ OpensTableOn (openedOf (now (file .entry))) layout answer ⌝ }
 {
@@ -27,7 +27,7 @@ pub extern "C" fn zundrafl_open_table(
 pub extern "C" fn zundrafl_open_complete_table(
     layout: &mut table_layout::Layout,
     file: &[u8],
-    answer: &mut coded_calls::Answer,
+    answer: &mut answer_words::Answer,
 )
     ensures { λ _. ⌜ OpensTableOn (openedComplete (now (file .entry))) layout answer ⌝ }
 {
@@ -45,7 +45,7 @@ pub extern "C" fn zundrafl_read_marks(
     layout: &table_layout::Layout,
     file: &[u8],
     rows: &mut [u64],
-    answer: &mut coded_calls::Answer,
+    answer: &mut answer_words::Answer,
 )
     ensures { λ _. ⌜ ReadsMarks (now (layout .entry)) file rows (now (answer .exit)) ⌝ }
 {
@@ -60,7 +60,7 @@ pub extern "C" fn zundrafl_object_name(
     layout: &table_layout::Layout,
     file: &[u8],
     number: usize,
-    answer: &mut coded_calls::Answer,
+    answer: &mut answer_words::Answer,
 )
     ensures { λ _. ⌜ now (answer .exit) ≡ codeOfSpan (objectSpan (now (file .entry)) (now (layout .entry)) number) ⌝ }
 {
@@ -73,7 +73,7 @@ pub extern "C" fn zundrafl_attribute_name(
     layout: &table_layout::Layout,
     file: &[u8],
     number: usize,
-    answer: &mut coded_calls::Answer,
+    answer: &mut answer_words::Answer,
 )
     ensures { λ _. ⌜ now (answer .exit) ≡ codeOfSpan (attributeSpan (now (file .entry)) (now (layout .entry)) number) ⌝ }
 {

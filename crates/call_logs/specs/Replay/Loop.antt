@@ -12,8 +12,9 @@ use lib.Seq.{getD-drop, drop-drop, take-suc-set, drop-set-lt}
 use Rattle.machine.specs.Checks.{State}
 use Rattle.machine.specs.Machine.{Call, run}
 use Rattle.machine.specs.Calls.{stateOf}
-use Rattle.coded_calls.specs.declared.Answer.{Answer as Coded}
-use Rattle.call_logs.specs.Replay.{callOf, callsOf, replayAfter, ReplaysFrom, known, answersOf, PastKept, LogWords, logWords, logOf, AllMade}
+use Rattle.answer_words.specs.declared.Answer.{Answer as Coded}
+use Rattle.logged_calls.specs.Kinds.{callOf, ReplaysFrom}
+use Rattle.call_logs.specs.Replay.{callsOf, replayAfter, known, answersOf, PastKept, LogWords, logWords, logOf, AllMade}
 use Rattle.call_logs.specs.Replay.Laws.{replayed}
 use Rattle.session.specs.declared.Session.{Session}
 

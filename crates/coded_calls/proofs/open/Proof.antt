@@ -5,7 +5,8 @@ use Rattle.machine.specs.Machine.{Opening}
 use Rattle.machine.specs.Calls.{openingFrom}
 use Rattle.session_opening.specs.declared.Opened.{Opened}
 use Rattle.session_opening.specs.Opening.{openingOf}
-use Rattle.coded_calls.specs.Codes.{codeOfOpening, isOpened, OpeningLeaves}
+use Rattle.answer_words.specs.Codes.{codeOfOpening, isOpened}
+use Rattle.coded_calls.specs.Openings.{OpeningLeaves}
 use Rattle.coded_calls.proofs.«open».Statement.{statement}
 use Rattle.coded_calls.proofs.«open».Tie as tie
 

@@ -1,7 +1,7 @@
 -- Each case of the opening has its code and its layout.
 use mathlib.Core.Path.{_≡_, refl, sym, subst}
 use mathlib.Core.Bool.{Bool}
-use Rattle.coded_calls.specs.declared.Answer.{Answer as Coded}
+use Rattle.answer_words.specs.declared.Answer.{Answer as Coded}
 use Rattle.table_layout.specs.declared.Layout.{Layout}
 use Rattle.table_layout.specs.declared.Opened.{Opened}
 use Rattle.coded_tables.specs.Tables.{FindsTable}

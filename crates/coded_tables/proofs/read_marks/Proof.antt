@@ -2,7 +2,7 @@
 use mathlib.Core.Path.{_≡_, sym, ap, _∙_}
 use mathlib.Core.List.{List}
 use Prim.Native.Nat.{ℕ}
-use Rattle.coded_calls.specs.declared.Answer.{Answer as Coded}
+use Rattle.answer_words.specs.declared.Answer.{Answer as Coded}
 use Rattle.table_layout.specs.declared.Opened.{Opened}
 use Rattle.table_marks.specs.Marks.{rowWords}
 use Rattle.coded_tables.specs.Tables.{codeOfOpened, MarksRead}

@@ -7,8 +7,8 @@ use prog.Memory.{Memory}
 use prog.Routine.{Routine}
 use denote.Triple.Spec.{tripleOf}
 use denote.Triple.Table.{entered, cited}
-use Rattle.coded_calls.proofs.Answer as N
-use Rattle.coded_calls.proofs.Answer.Laws as N′
+use Rattle.answer_words.proofs.Answer as N
+use Rattle.answer_words.proofs.Answer.Laws as N′
 use Rattle.walks.specs.Tools.{refl, URA, fullShare, named, Val, ent, emp, flft, fat, Heap, Calls, Loops, Atoms, Lfts, Shares, Given, raw, qed, move, drop, rewrite, suffices, use1, look, init, stop, from, and-then, no-more, land, returns, enter, alloc1, alloc0, params1, pass1, pass0, free0, agg, whole, sub, look-in, FmC, fmOf, owns, Spells, valss, u8, ptr-vals, mut-tells, slice-vals, shr-slice-tells, shr-slice-lawful, typesAt, Lasts, atExit, Args, Vals, Triple, ends-at, all-told, Agreed, Walk, meets, called, learnt, copied, field-of, sets, freed, stores, _∷_, [], _⊛_, _$_, _∵_, !, ‵}
 use Rattle.opened_table.specs.declared.Table.{Table}
 use Rattle.opened_table.specs.declared.Opening.{Opening}

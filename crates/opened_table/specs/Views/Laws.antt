@@ -10,7 +10,7 @@ use lib.Dec.{ltb}
 use borrow.Author.Tests.{le-ltb}
 use denote.Ref.{RefT, now}
 use Rattle.session.specs.declared.Refusal.{Refusal}
-use Rattle.coded_calls.specs.declared.Answer.{Answer as Coded}
+use Rattle.answer_words.specs.declared.Answer.{Answer as Coded}
 use Rattle.table_layout.specs.Layout.{openedOf}
 use Rattle.found_layout.specs.Found.{finds}
 use Rattle.found_layout.specs.Found.Laws.{finds-table}

@@ -6,7 +6,7 @@ use mathlib.Core.List.{List}
 use Prim.Native.Nat.{ℕ}
 use Rattle.session.specs.declared.Session.{Session}
 use Rattle.session.specs.Choice.{chosen}
-use Rattle.coded_calls.specs.declared.Answer.{Answer as Coded}
+use Rattle.answer_words.specs.declared.Answer.{Answer as Coded}
 use Rattle.call_logs.specs.Replay.{LogWords, AllMade, NoneMade, ReplaySays}
 use Rattle.call_logs.specs.declared.Log.{Log}
 use Rattle.call_logs.specs.declared.Log.the-variants.{Replayed, Short}

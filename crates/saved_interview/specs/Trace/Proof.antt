@@ -13,8 +13,9 @@ use Rattle.machine.specs.Checks.{Lent, State}
 use Rattle.machine.specs.Machine.{Call, step, accept, reject, follow, refute, perform, run}
 use Rattle.machine.specs.Facts.{Fine}
 use Rattle.machine.specs.Facts.Kept.{never-bad}
-use Rattle.coded_calls.specs.Codes.{coded}
-use Rattle.call_logs.specs.Replay.{callOf, callsOf, replayCode, replayAfter, known, answersOf, logOf}
+use Rattle.answer_words.specs.Codes.{coded}
+use Rattle.logged_calls.specs.Kinds.{callOf}
+use Rattle.call_logs.specs.Replay.{callsOf, replayCode, replayAfter, known, answersOf, logOf}
 use Rattle.saved_interview.specs.Demand3Whole.{Interview, opening-state, end-state, script, rules}
 use Rattle.saved_interview.specs.Trace.{stateAfter, answerAt, Link, log, Trace, wordsOf, logWordsOf}
 

@@ -1,7 +1,7 @@
 -- The record is read, the coded call is made, and record and answer are stored, the record where it changed.
 use contract.Running.{tablesOf}
 use Rattle.walks.specs.Instance.{id⊢, fact-mono, givenOf, tables, tripleOf, entered, cited}
-use Rattle.coded_calls.specs.Codes.Laws.{opens-kept}
+use Rattle.coded_calls.specs.Openings.Laws.{opens-kept}
 use Rattle.coded_calls.proofs.«open» as core
 use Rattle.coded_calls.proofs.«open».Symbol as core-def
 use Rattle.coded_calls.proofs.«open».Met as core-thm

@@ -1,39 +1,17 @@
--- An opening that changed no record leaves the one that it was given, so that it is stored only where it changed (`opens-kept`). The three words
--- of a call's answer say which answer it was (`read-back`, `codes-tell`), and just those below 100 are refusals (`refusal-code`, `small-code`,
--- `opening-code`).
+-- The three words of a call's answer say which answer it was (`read-back`, `codes-tell`), and just those below 100 are refusals
+-- (`refusal-code`, `small-code`, `opening-code`).
 use mathlib.Core.Path.{_≡_, refl, sym, ap, _∙_}
-use mathlib.Core.Bool.{Bool, true, false, true≢false}
+use mathlib.Core.Bool.{true, false}
 use mathlib.Core.List.{List}
 use Prim.Native.Nat.{ℕ, _<_}
 use native.Mathlib.Omega.{arith}
 use borrow.Author.Tests.{ne-eqb}
-use Rattle.session.specs.declared.Session.{Session}
 use Rattle.session.specs.declared.Refusal.{Refusal}
-use Rattle.session.specs.Choice.{chosen}
 use Rattle.machine.specs.Checks.{State}
 use Rattle.machine.specs.Machine.{Call, Answer, finished, moved, asked, taken, followed, refuted, unrefuted, refused, perform, Opening, opened, rejected}
 use Rattle.machine.specs.Facts.Refused.{small-number, opening-number}
 use Rattle.machine.specs.Calls.{openingFrom}
-use Rattle.coded_calls.specs.Codes.{codeOf, answerIn, codeOfOpening, OpeningLeaves, isOpened, OpensFrom, OpensTo}
-use Rattle.coded_calls.specs.declared.Answer.{Answer as Coded}
-
-leaves-kept : (o : Opening) (before after : Session) (rows list background : List ℕ) → isOpened o ≡ false
-    → OpeningLeaves before after rows list background o → OpeningLeaves before before rows list background o
-leaves-kept (opened s) before after rows list background e l = absurd (true≢false e)
-leaves-kept (rejected r) before after rows list background e l = refl
-
-pub opens-kept : {n used : ℕ} {before : Session} {rows list background : List ℕ} {x : Coded} {after : Session} {changed : Bool}
-    → OpensTo n used before rows list background x after changed → OpensFrom n used before rows list background x (chosen changed after before)
-opens-kept {n} {used} {before} {rows} {list} {background} {x} {after} {changed} o = go changed refl
-  where
-    go : (b : Bool) → changed ≡ b → OpensFrom n used before rows list background x (chosen b after before)
-    go true e = o .opens
-    go false e = record {
-      answer = o .opens .answer;
-      record-left = leaves-kept (openingFrom n used rows list background) before after rows list background (sym (o .change) ∙ e) (o .opens .record-left);
-    }
-
--- ---- what the words of an answer tell
+use Rattle.answer_words.specs.Codes.{codeOf, answerIn, codeOfOpening, isOpened}
 
 -- the answer can be read back from its words, where a refusal has a number below 100
 read-words : (a : Answer) → ((r : Refusal) → a ≡ refused r → r .number < 100) → answerIn (codeOf a) ≡ a

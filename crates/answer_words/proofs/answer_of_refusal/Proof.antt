@@ -1,7 +1,7 @@
 -- The number is the code, and the place the first value.
 use borrow.Author.Needs.{needs}
-use Rattle.coded_calls.proofs.answer_of_refusal.Statement.{statement}
-use Rattle.coded_calls.proofs.answer_of_refusal.Tie as tie
+use Rattle.answer_words.proofs.answer_of_refusal.Statement.{statement}
+use Rattle.answer_words.proofs.answer_of_refusal.Tie as tie
 
 returns : tie.Need-returns
 returns c = c .in-words .ensures

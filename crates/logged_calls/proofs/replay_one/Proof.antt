@@ -1,10 +1,10 @@
 -- Each kind makes the call of its kind, whose contract is that of the log's call; an unknown kind does nothing.
 use mathlib.Core.Path.{_≡_}
 use borrow.Author.Needs.{needs}
-use Rattle.call_logs.specs.Replay.{callOf}
-use Rattle.call_logs.specs.Replay.Laws.{call-unknown, kind-step, kind-yes, kind-no, kind-follows, kind-refuted, of-kind, of-unknown}
-use Rattle.call_logs.proofs.replay_one.Statement.{statement}
-use Rattle.call_logs.proofs.replay_one.Tie as tie
+use Rattle.logged_calls.specs.Kinds.{callOf}
+use Rattle.logged_calls.specs.Kinds.Laws.{call-unknown, kind-step, kind-yes, kind-no, kind-follows, kind-refuted, of-kind, of-unknown}
+use Rattle.logged_calls.proofs.replay_one.Statement.{statement}
+use Rattle.logged_calls.proofs.replay_one.Tie as tie
 
 returns : tie.Need-returns
 returns c = let d = c in of-kind _ 0 _ _ (d .before .before .before .if1 .taken) (kind-step _ _) (d .step .ensures .made)

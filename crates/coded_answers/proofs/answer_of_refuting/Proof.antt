@@ -2,9 +2,9 @@
 use mathlib.Core.Path.{sym, ap, _∙_}
 use borrow.Author.Needs.{needs}
 use Rattle.session_queries.specs.Answers.{refutingAnswer}
-use Rattle.coded_calls.specs.Codes.{codeOf}
-use Rattle.coded_calls.proofs.answer_of_refuting.Statement.{statement}
-use Rattle.coded_calls.proofs.answer_of_refuting.Tie as tie
+use Rattle.answer_words.specs.Codes.{codeOf}
+use Rattle.coded_answers.proofs.answer_of_refuting.Statement.{statement}
+use Rattle.coded_answers.proofs.answer_of_refuting.Tie as tie
 
 returns : tie.Need-returns
 returns c = c .in-words .ensures ∙ sym (ap (λ a. codeOf (refutingAnswer a)) (c .before .before .answer .given .1))
