@@ -12,8 +12,8 @@ use Rattle.table_layout.specs.declared.Opened.the-variants.{Refused}
 use Rattle.table_walk.specs.Walk.{walk, Passes}
 use Rattle.table_walk.specs.Walk.Passed.{passes-from}
 use Rattle.table_layout.specs.Layout.Passed.{table-marks, starts-inside}
-use Rattle.table_marks.specs.Marks.{flat, readingFrom}
-use Rattle.table_marks.specs.Marks.Laws.{rows-from, reading-short, reading-whole}
+use Rattle.mark_reading.specs.Marks.{flat, readingFrom}
+use Rattle.mark_reading.specs.Marks.Laws.{rows-from, reading-short, reading-whole}
 use Rattle.table_marks.proofs.read_opened.Statement.{statement}
 use Rattle.table_marks.proofs.read_opened.Tie as tie
 

@@ -24,7 +24,7 @@ use Rattle.implication.specs.Pairs.{pairs}
 use Rattle.context.specs.Objects.{Object, objectsOf}
 use Rattle.table_walk.specs.Walk.Passed.{bytes-part, after-part, part-whole}
 use Rattle.table_rows.specs.Rows.{wordOf, rowOf, rowsFrom}
-use Rattle.table_marks.specs.Marks.{flat, readingFrom, readingOf, reading, readingAs, rowWords, wordsRead, completeReading, completeWordsRead}
+use Rattle.mark_reading.specs.Marks.{flat, readingFrom, readingOf, reading, readingAs, rowWords, wordsRead, completeReading, completeWordsRead}
 use Rattle.table_layout.specs.Layout.Passed.{table-objects}
 use Rattle.complete_tables.specs.Complete.{completeOf}
 use Rattle.found_layout.specs.Found.Laws.{as-other, as-found}

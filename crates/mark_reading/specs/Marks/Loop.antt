@@ -13,7 +13,7 @@ use Rattle.table_lines.specs.Lines.{bytesAt, after}
 use Rattle.context.specs.Objects.{Object}
 use Rattle.table_walk.specs.Walk.{walk, Passes}
 use Rattle.table_rows.specs.Rows.{rowOf, rowsFrom}
-use Rattle.table_marks.specs.Marks.{flat}
+use Rattle.mark_reading.specs.Marks.{flat}
 use Rattle.table_walk.specs.Walk.Passed.{NextLine, next-line}
 
 -- two stores at i * 2 make the words up to there two longer
