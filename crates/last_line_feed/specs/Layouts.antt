@@ -27,10 +27,10 @@ use Rattle.table_lines.specs.Lines.{lineFeed, carriageReturn, feeds, longer, li
 use Rattle.table_lines.specs.Lines.Laws.{line-none, line-feed, line-return, line-on, step-inside, size-inside}
 use Rattle.table_bytes.specs.Bytes.{countOf}
 use Rattle.table_layout.specs.Layout.{mostBytes, attributesAt, objectCount, attributeCount, header, toAttributeNames, toMarks, toEnd, layoutOf, openedFrom, openedOf}
-use Rattle.table_kinds.specs.Kinds.{fault}
+use Rattle.line_faults.specs.Faults.{fault}
 use Rattle.table_walk.specs.Walk.{lineFault, walk, rest, placeOf, Passes, thenRest}
 use Rattle.table_walk.specs.Walk.Laws.{fault-there, fault-missing, rest-end, rest-enough}
-use Rattle.table_kinds.specs.Kinds.Laws.{attributes-fine}
+use Rattle.line_faults.specs.Faults.Laws.{attributes-fine}
 use Rattle.table_walk.specs.Walk.Passed.{line-there, passes-cons, passes-append}
 
 -- ---- what alike means

@@ -10,7 +10,8 @@ use Rattle.table_lines.specs.Lines.{bytesAt, after}
 use Rattle.table_kinds.specs.declared.Kind.{Kind}
 use Rattle.table_walk.specs.declared.Walk.{Walk}
 use Rattle.table_walk.specs.declared.Walk.the-variants.{Failed, At}
-use Rattle.table_kinds.specs.Kinds.{fault, absent}
+use Rattle.table_kinds.specs.Kinds.{absent}
+use Rattle.line_faults.specs.Faults.{fault}
 pub mod Laws
 pub mod Passed
 

@@ -20,7 +20,7 @@ pub fn walk_line(file: &[u8], at: usize, kind: Kind) -> Walk
     }
     let line = table_lines::line_at(file, at);
     let end = at + line.size;
-    let number = table_kinds::fault_of(&file[at..end], kind);
+    let number = line_faults::fault_of(&file[at..end], kind);
     if number != 0 {
         return Walk::Failed(session::refuse(number, at));
     }

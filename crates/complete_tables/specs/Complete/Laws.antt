@@ -7,7 +7,7 @@ use Prim.Native.Nat.{ℕ, zero, suc, _<_, _+_, _*_, _/_, _%_, min, max}
 use native.Mathlib.Omega.{arith}
 use lib.ListN.{length, replicate}
 use Rattle.table_kinds.specs.declared.Kind.the-variants.{Marks}
-use Rattle.table_kinds.specs.Kinds.{fault}
+use Rattle.line_faults.specs.Faults.{fault}
 use Rattle.table_layout.specs.declared.Opened.the-variants.{Refused, Found}
 use Rattle.session.specs.Refusals.{refusal}
 use Rattle.table_lines.specs.Lines.{lineOf, bytesAt, after}
@@ -30,7 +30,7 @@ use Rattle.table_bytes.specs.Bytes.Laws.{everywhere-cons}
 use Rattle.table_layout.specs.Layout.Passed.{table-marks}
 use Rattle.table_rows.specs.Rows.Laws.{bit-lt}
 use Rattle.complete_tables.specs.Complete.{completeFrom, completeOf, openedComplete}
-use Rattle.table_kinds.specs.Kinds.Laws.{marks-fine}
+use Rattle.line_faults.specs.Faults.Laws.{marks-fine}
 
 -- `B`, an empty title, two rows and one property with their names, and the marks `X` and `?`
 abbrev unknown : List ℕ

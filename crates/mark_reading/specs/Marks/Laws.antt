@@ -11,7 +11,7 @@ use borrow.Author.Tests.{lt-ltb, le-ltb}
 use Rattle.table_layout.specs.declared.Opened.the-variants.{Refused, Found}
 use Rattle.session.specs.Refusals.{refusal}
 use Rattle.table_bytes.specs.Bytes.{everywhere, decimalFrom, isCount, countOf}
-use Rattle.table_kinds.specs.Kinds.{fault}
+use Rattle.line_faults.specs.Faults.{fault}
 use Rattle.table_lines.specs.Lines.{lineOf, bytesAt, after}
 use Rattle.table_layout.specs.Layout.{openedOf, layoutOf}
 use Rattle.table_walk.specs.Walk.{lineFault, walk, rest}

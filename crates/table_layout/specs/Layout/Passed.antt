@@ -18,7 +18,7 @@ use Rattle.table_layout.specs.declared.Layout.{Layout}
 use Rattle.machine.specs.Checks.{mostAttributes, mostObjects}
 use Rattle.table_walk.specs.Walk.Laws.{place-inside}
 use Rattle.table_walk.specs.Walk.Passed.{line-there, passes-cons, passes-append}
-use Rattle.table_kinds.specs.Kinds.Laws.{objects-fine, attributes-fine}
+use Rattle.line_faults.specs.Faults.Laws.{objects-fine, attributes-fine}
 
 module _ (file : List ℕ) where
   -- both counts of a file whose lines pass are in range

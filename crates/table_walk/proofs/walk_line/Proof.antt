@@ -10,7 +10,7 @@ use Rattle.table_lines.specs.Lines.{lineOf, after}
 use Rattle.table_lines.specs.Lines.Laws.{bytes-inside, after-inside}
 use Rattle.session.specs.Refusals.{refusal}
 use Rattle.table_walk.specs.declared.Walk.the-variants.{Failed, At}
-use Rattle.table_kinds.specs.Kinds.{fault}
+use Rattle.line_faults.specs.Faults.{fault}
 use Rattle.table_walk.specs.Walk.{lineFault, walk}
 use Rattle.table_kinds.specs.Kinds.Laws.{absent-some}
 use Rattle.table_walk.specs.Walk.Laws.{fault-there, fault-missing, walk-passed, walk-failed}

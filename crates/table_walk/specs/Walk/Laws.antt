@@ -16,7 +16,8 @@ use Rattle.table_walk.specs.declared.Walk.the-variants.{Failed, At}
 use Rattle.session.specs.Refusals.{refusal}
 use Rattle.table_lines.specs.Lines.{lineOf, bytesAt, after}
 use Rattle.table_lines.specs.Lines.Laws.{bytes-length, after-inside, after-moves}
-use Rattle.table_kinds.specs.Kinds.{fault, absent}
+use Rattle.table_kinds.specs.Kinds.{absent}
+use Rattle.line_faults.specs.Faults.{fault}
 use Rattle.table_walk.specs.Walk.{lineFault, walk, walkOn, rest, placeOf}
 
 -- computed: the first failing line decides, with its own number and where it begins; a missing line is at the file's end; the last line

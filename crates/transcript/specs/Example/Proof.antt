@@ -10,7 +10,7 @@ use Rattle.machine.specs.Checks.{standing, questionStands, firstFailing, badLen
 use Rattle.machine.specs.Machine.{performStep, performed, checksOf, perform, opening}
 use Rattle.table_lines.specs.Lines.{lineOf}
 use Rattle.table_bytes.specs.Bytes.{everywhere, decimalFrom, isCount, countOf}
-use Rattle.table_kinds.specs.Kinds.{fault}
+use Rattle.line_faults.specs.Faults.{fault}
 use Rattle.table_walk.specs.Walk.{lineFault, walk, rest}
 use Rattle.table_layout.specs.Layout.{layoutOf, openedOf}
 use Rattle.table_rows.specs.Rows.{wordOf, rowsFrom}

@@ -3,8 +3,8 @@ use Prim.Native.Nat.{_≤_, _<_}
 use native.Mathlib.Omega.{arith}
 use lib.ListN.{length}
 use borrow.Author.Tests.{lt-ltb, le-ltb}
-use Rattle.table_kinds.proofs.is_name.Statement.{statement}
-use Rattle.table_kinds.proofs.is_name.Tie as tie
+use Rattle.line_tests.proofs.is_name.Statement.{statement}
+use Rattle.line_tests.proofs.is_name.Tie as tie
 
 returns : tie.Need-returns
 returns c =

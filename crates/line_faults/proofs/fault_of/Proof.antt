@@ -1,9 +1,10 @@
 -- Each kind's line has the kind's fault.
 use mathlib.Core.Path.{ap, _∙_}
 use borrow.Author.Needs.{needs}
-use Rattle.table_kinds.specs.Kinds.{refuseUnless, fault}
-use Rattle.table_kinds.proofs.fault_of.Statement.{statement}
-use Rattle.table_kinds.proofs.fault_of.Tie as tie
+use Rattle.line_tests.specs.Tests.{refuseUnless}
+use Rattle.line_faults.specs.Faults.{fault}
+use Rattle.line_faults.proofs.fault_of.Statement.{statement}
+use Rattle.line_faults.proofs.fault_of.Tie as tie
 
 returns : tie.Need-returns
 unfolding fault

@@ -4,9 +4,9 @@ use mathlib.Core.Bool.{true}
 use borrow.Author.Needs.{needs}
 use borrow.Author.Tests.{not-true, not-false, le-leb, lt-leb}
 use Rattle.table_bytes.specs.Bytes.{isCount}
-use Rattle.table_kinds.specs.Kinds.{countFault}
-use Rattle.table_kinds.proofs.count_fault.Statement.{statement}
-use Rattle.table_kinds.proofs.count_fault.Tie as tie
+use Rattle.line_tests.specs.Tests.{countFault}
+use Rattle.line_tests.proofs.count_fault.Statement.{statement}
+use Rattle.line_tests.proofs.count_fault.Tie as tie
 
 -- it is a count
 count : (c : tie.Else1) → isCount (c .before .before .before .args .line .now) ≡ true
