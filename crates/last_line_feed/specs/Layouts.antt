@@ -25,7 +25,7 @@ use Rattle.table_layout.specs.declared.Opened.the-variants.{Found, Refused}
 use Rattle.session.specs.Refusals.{refusal}
 use Rattle.table_lines.specs.Lines.{lineFeed, carriageReturn, feeds, longer, lineOf, bytesAt, after}
 use Rattle.table_lines.specs.Lines.Laws.{line-none, line-feed, line-return, line-on, step-inside, size-inside}
-use Rattle.table_bytes.specs.Bytes.{countOf}
+use Rattle.table_counts.specs.Counts.{countOf}
 use Rattle.table_layout.specs.Layout.{mostBytes, attributesAt, objectCount, attributeCount, header, toAttributeNames, toMarks, toEnd, layoutOf, openedFrom, openedOf}
 use Rattle.line_faults.specs.Faults.{fault}
 use Rattle.table_walk.specs.Walk.{lineFault, walk, rest, placeOf, Passes, thenRest}

@@ -5,7 +5,9 @@ use mathlib.Core.List.{List}
 use Prim.Native.Nat.{ℕ}
 use lib.ListN.{length, getD}
 use lib.Dec.{eqb, ltb, leb}
-use Rattle.table_bytes.specs.Bytes.{isMark, everywhere, isCount, countOf}
+use Rattle.table_bytes.specs.Bytes.{isMark}
+use Rattle.line_bytes.specs.Everywhere.{everywhere}
+use Rattle.table_counts.specs.Counts.{isCount, countOf}
 pub mod Laws
 
 -- the most bytes of a title or a name

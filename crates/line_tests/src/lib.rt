@@ -19,10 +19,10 @@ pub fn refuse_unless(fine: bool, number: u64) -> u64
 pub fn count_fault(line: &[u8], least: usize, most: usize) -> u64
     ensures { λ r. ⌜ r ≡ countFault least most (now (line .entry)) ⌝ }
 {
-    if !table_bytes::is_count(line) {
+    if !table_counts::is_count(line) {
         return 23;
     }
-    let count = table_bytes::count_of(line);
+    let count = table_counts::count_of(line);
     if count < least {
         return 24;
     }
@@ -50,5 +50,5 @@ pub fn is_name(line: &[u8]) -> bool
 pub fn is_marks(line: &[u8], n: usize) -> bool
     ensures { λ r. ⌜ r ≡ isMarks n (now (line .entry)) ⌝ }
 {
-    line.len() == n && table_bytes::all_pass(line, table_bytes::ByteKind::Mark)
+    line.len() == n && line_bytes::all_pass(line, table_bytes::ByteKind::Mark)
 }

@@ -6,7 +6,7 @@ use Prim.Native.Nat.{ℕ}
 use lib.ListN.{length, replicate}
 use lib.Dec.{ltb}
 use Rattle.session.specs.Refusals.{refusal}
-use Rattle.table_bytes.specs.Bytes.{countOf}
+use Rattle.table_counts.specs.Counts.{countOf}
 use Rattle.table_lines.specs.Lines.{bytesAt, after}
 use Rattle.table_kinds.specs.declared.Kind.{Kind}
 use Rattle.table_kinds.specs.declared.Kind.the-variants.{Letter, Title, Objects, Attributes, Blank, Name, Marks}

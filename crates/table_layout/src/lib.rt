@@ -4,7 +4,7 @@ ghost use mathlib.Core.Path.{_≡_};
 ghost use Prim.Native.Nat.{_≤_};
 ghost use lib.ListN.{length};
 ghost use Rattle.table_lines.specs.Lines.{bytesAt};
-ghost use Rattle.table_bytes.specs.Bytes.{countOf};
+ghost use Rattle.table_counts.specs.Counts.{countOf};
 ghost use Rattle.table_walk.specs.Walk.{walk};
 ghost use Rattle.table_layout.specs.Layout.{objectCount, attributeCount, header, openedFrom, openedOf};
 use table_kinds::Kind;
@@ -49,7 +49,7 @@ fn count_at(file: &[u8], at: usize) -> usize
 {
     let line = table_lines::line_at(file, at);
     let end = at + line.size;
-    table_bytes::count_of(&file[at..end])
+    table_counts::count_of(&file[at..end])
 }
 
 // The count of objects, in the third line.

@@ -25,8 +25,10 @@ use Rattle.theory.specs.Lists.Laws.{all-nil, all-cons}
 use Rattle.attribute_set.specs.Sets.{full}
 use Rattle.attribute_set.specs.Sets.Laws.{and-apart}
 use Rattle.context.specs.Tables.{Complete, Table}
-use Rattle.table_bytes.specs.Bytes.{isYes, isNo, isUnknown, isKnown, isMark, everywhere, decimalFrom, isCount, countOf}
-use Rattle.table_bytes.specs.Bytes.Laws.{everywhere-cons}
+use Rattle.table_bytes.specs.Bytes.{isYes, isNo, isUnknown, isKnown, isMark}
+use Rattle.line_bytes.specs.Everywhere.{everywhere}
+use Rattle.table_counts.specs.Counts.{decimalFrom, isCount, countOf}
+use Rattle.line_bytes.specs.Everywhere.Laws.{everywhere-cons}
 use Rattle.table_layout.specs.Layout.Passed.{table-marks}
 use Rattle.table_rows.specs.Rows.Laws.{bit-lt}
 use Rattle.complete_tables.specs.Complete.{completeFrom, completeOf, openedComplete}

@@ -11,7 +11,9 @@ use Rattle.line_faults.specs.Faults.{fault}
 use Rattle.line_tests.specs.Tests.Laws.{unless-fine, count-fine}
 use borrow.Author.Tests.{eqb-true}
 use Rattle.machine.specs.Checks.{mostAttributes, mostObjects}
-use Rattle.table_bytes.specs.Bytes.{isCount, countOf, isMark, everywhere, decimalFrom}
+use Rattle.table_bytes.specs.Bytes.{isMark}
+use Rattle.line_bytes.specs.Everywhere.{everywhere}
+use Rattle.table_counts.specs.Counts.{isCount, countOf, decimalFrom}
 
 -- 01's edges, computed: the letter; 80 and 81 bytes of a title, 0, 80 and 81 of a name; 512 and 513 rows; 0, 1, 64 and 65 properties, and
 -- a count line that is no count; a fifth line that is not empty; a line of two marks, and lines that are none

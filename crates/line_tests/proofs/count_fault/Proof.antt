@@ -3,7 +3,7 @@ use mathlib.Core.Path.{_≡_, sym, _∙_}
 use mathlib.Core.Bool.{true}
 use borrow.Author.Needs.{needs}
 use borrow.Author.Tests.{not-true, not-false, le-leb, lt-leb}
-use Rattle.table_bytes.specs.Bytes.{isCount}
+use Rattle.table_counts.specs.Counts.{isCount}
 use Rattle.line_tests.specs.Tests.{countFault}
 use Rattle.line_tests.proofs.count_fault.Statement.{statement}
 use Rattle.line_tests.proofs.count_fault.Tie as tie

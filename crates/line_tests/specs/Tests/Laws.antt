@@ -6,7 +6,7 @@ use Prim.Native.Nat.{ℕ, suc, _≤_}
 use native.Mathlib.Omega.{arith}
 use lib.Dec.{leb}
 use borrow.Author.Tests.{leb-true}
-use Rattle.table_bytes.specs.Bytes.{isCount, countOf}
+use Rattle.table_counts.specs.Counts.{isCount, countOf}
 use Rattle.line_tests.specs.Tests.{refuseUnless, countFault}
 
 pub unless-fine : (t : Bool) (number : ℕ) → refuseUnless t (suc number) ≡ 0 → t ≡ true

@@ -10,7 +10,8 @@ use lib.ListN.{length, drop, take}
 use borrow.Author.Tests.{lt-ltb, le-ltb}
 use Rattle.table_layout.specs.declared.Opened.the-variants.{Refused, Found}
 use Rattle.session.specs.Refusals.{refusal}
-use Rattle.table_bytes.specs.Bytes.{everywhere, decimalFrom, isCount, countOf}
+use Rattle.line_bytes.specs.Everywhere.{everywhere}
+use Rattle.table_counts.specs.Counts.{decimalFrom, isCount, countOf}
 use Rattle.line_faults.specs.Faults.{fault}
 use Rattle.table_lines.specs.Lines.{lineOf, bytesAt, after}
 use Rattle.table_layout.specs.Layout.{openedOf, layoutOf}

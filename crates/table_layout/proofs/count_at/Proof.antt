@@ -7,7 +7,7 @@ use borrow.Author.Needs.{needs}
 use Rattle.table_lines.specs.declared.Line.{Line}
 use Rattle.table_lines.specs.Lines.{lineOf}
 use Rattle.table_lines.specs.Lines.Laws.{bytes-inside}
-use Rattle.table_bytes.specs.Bytes.{countOf}
+use Rattle.table_counts.specs.Counts.{countOf}
 use Rattle.table_layout.proofs.count_at.Statement.{statement}
 use Rattle.table_layout.proofs.count_at.Tie as tie
 

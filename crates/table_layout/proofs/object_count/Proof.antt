@@ -6,7 +6,7 @@ use native.Mathlib.Omega.{arith}
 use borrow.Author.Needs.{needs}
 use Rattle.table_lines.specs.Lines.{bytesAt, after}
 use Rattle.table_lines.specs.Lines.Laws.{after-inside}
-use Rattle.table_bytes.specs.Bytes.{countOf}
+use Rattle.table_counts.specs.Counts.{countOf}
 use Rattle.table_layout.specs.Layout.{objectsAt}
 use Rattle.table_layout.proofs.object_count.Statement.{statement}
 use Rattle.table_layout.proofs.object_count.Tie as tie

@@ -8,7 +8,8 @@ use Rattle.table_layout.specs.declared.Opened.the-variants.{Found, Refus
 use Rattle.table_walk.specs.declared.Walk.{Walk}
 use Rattle.session.specs.Refusals.{refusal}
 use Rattle.table_lines.specs.Lines.{lineOf}
-use Rattle.table_bytes.specs.Bytes.{everywhere, decimalFrom, isCount, countOf}
+use Rattle.line_bytes.specs.Everywhere.{everywhere}
+use Rattle.table_counts.specs.Counts.{decimalFrom, isCount, countOf}
 use Rattle.line_faults.specs.Faults.{fault}
 use Rattle.table_layout.specs.Layout.{mostBytes, objectCount, attributeCount, header, toAttributeNames, toMarks, toEnd, layout, layoutOf, openedFrom, openedOf}
 use Rattle.table_walk.specs.Walk.{lineFault, walk, rest, placeOf, thenRest}

@@ -9,7 +9,8 @@ use Rattle.reach.specs.Reach.{cut, narrow, reach}
 use Rattle.machine.specs.Checks.{standing, questionStands, firstFailing, badLength, strange, outsideM, sessionChecks, yesChecks, noChecks}
 use Rattle.machine.specs.Machine.{performStep, performed, checksOf, perform, opening}
 use Rattle.table_lines.specs.Lines.{lineOf}
-use Rattle.table_bytes.specs.Bytes.{everywhere, decimalFrom, isCount, countOf}
+use Rattle.line_bytes.specs.Everywhere.{everywhere}
+use Rattle.table_counts.specs.Counts.{decimalFrom, isCount, countOf}
 use Rattle.line_faults.specs.Faults.{fault}
 use Rattle.table_walk.specs.Walk.{lineFault, walk, rest}
 use Rattle.table_layout.specs.Layout.{layoutOf, openedOf}

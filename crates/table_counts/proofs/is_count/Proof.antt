@@ -5,9 +5,9 @@ use native.Mathlib.Omega.{arith}
 use lib.ListN.{length}
 use borrow.Author.Needs.{needs}
 use borrow.Author.Tests.{lt-ltb, le-leb, lt-leb}
-use Rattle.table_bytes.specs.Bytes.{isCount}
-use Rattle.table_bytes.proofs.is_count.Statement.{statement}
-use Rattle.table_bytes.proofs.is_count.Tie as tie
+use Rattle.table_counts.specs.Counts.{isCount}
+use Rattle.table_counts.proofs.is_count.Statement.{statement}
+use Rattle.table_counts.proofs.is_count.Tie as tie
 
 returns : tie.Need-returns
 unfolding isCount

@@ -3,10 +3,10 @@ use mathlib.Core.Path.{_≡_, sym, _∙_}
 use mathlib.Core.Bool.{true}
 use borrow.Author.Needs.{needs}
 use borrow.Author.Tests.{not-true, not-false}
-use Rattle.table_bytes.specs.Bytes.{isCount, countOf}
-use Rattle.table_bytes.specs.Bytes.Laws.{count-digits}
-use Rattle.table_bytes.proofs.count_of.Statement.{statement}
-use Rattle.table_bytes.proofs.count_of.Tie as tie
+use Rattle.table_counts.specs.Counts.{isCount, countOf}
+use Rattle.table_counts.specs.Counts.Laws.{count-digits}
+use Rattle.table_counts.proofs.count_of.Statement.{statement}
+use Rattle.table_counts.proofs.count_of.Tie as tie
 
 -- it is a count
 count : (c : tie.Else1) → isCount (c .before .before .before .args .line .now) ≡ true

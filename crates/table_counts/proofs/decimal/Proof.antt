@@ -6,10 +6,13 @@ use Prim.Native.Nat.{ℕ, _≤_, _<_, _+_, _-_, _^_}
 use native.Mathlib.Omega.{arith}
 use borrow.Author.Needs.{needs}
 use lib.ListN.{length, getD, drop}
-use Rattle.table_bytes.specs.Bytes.{isDigit, everywhere, decimalFrom}
-use Rattle.table_bytes.specs.Bytes.Laws.{everywhere-at, decimal-at, decimal-end, digit-range, decimal-below, power-small}
-use Rattle.table_bytes.proofs.decimal.Statement.{statement}
-use Rattle.table_bytes.proofs.decimal.Tie as tie
+use Rattle.table_bytes.specs.Bytes.{isDigit}
+use Rattle.line_bytes.specs.Everywhere.{everywhere}
+use Rattle.table_counts.specs.Counts.{decimalFrom}
+use Rattle.line_bytes.specs.Everywhere.Laws.{everywhere-at}
+use Rattle.table_counts.specs.Counts.Laws.{decimal-at, decimal-end, digit-range, decimal-below, power-small}
+use Rattle.table_counts.proofs.decimal.Statement.{statement}
+use Rattle.table_counts.proofs.decimal.Tie as tie
 
 abbrev Inv-loop : tie.InvT-loop
 Inv-loop line n₀ i₀ n i =

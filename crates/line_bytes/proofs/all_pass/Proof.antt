@@ -6,10 +6,11 @@ use native.Mathlib.Omega.{arith}
 use borrow.Author.Needs.{needs}
 use borrow.Author.Tests.{not-true, not-false}
 use lib.ListN.{length, drop}
-use Rattle.table_bytes.specs.Bytes.{passes, everywhere}
-use Rattle.table_bytes.specs.Bytes.Laws.{everywhere-at, everywhere-end}
-use Rattle.table_bytes.proofs.all_pass.Statement.{statement}
-use Rattle.table_bytes.proofs.all_pass.Tie as tie
+use Rattle.table_bytes.specs.Bytes.{passes}
+use Rattle.line_bytes.specs.Everywhere.{everywhere}
+use Rattle.line_bytes.specs.Everywhere.Laws.{everywhere-at, everywhere-end}
+use Rattle.line_bytes.proofs.all_pass.Statement.{statement}
+use Rattle.line_bytes.proofs.all_pass.Tie as tie
 
 abbrev Inv-loop : tie.InvT-loop
 Inv-loop bytes kind i₀ i = (i ≤ length bytes) × (everywhere (passes kind) (drop i bytes) ≡ everywhere (passes kind) bytes)
