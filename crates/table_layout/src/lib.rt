@@ -5,10 +5,10 @@ ghost use Prim.Native.Nat.{_≤_};
 ghost use lib.ListN.{length};
 ghost use Rattle.table_lines.specs.Lines.{bytesAt};
 ghost use Rattle.table_counts.specs.Counts.{countOf};
-ghost use Rattle.table_walk.specs.Walk.{walk};
+ghost use Rattle.line_walk.specs.Walk.{walk};
 ghost use Rattle.table_layout.specs.Layout.{objectCount, attributeCount, header, openedFrom, openedOf};
+use line_walk::Walk;
 use table_kinds::Kind;
-use table_walk::Walk;
 
 // What an opened table keeps beside its file: the counts, and where the names of each kind and the marks begin.
 #[repr(C)]
@@ -35,7 +35,7 @@ pub enum Opened {
 fn walk_header(file: &[u8]) -> Walk
     ensures { λ r. ⌜ r ≡ walk header (now (file .entry)) 0 ⌝ }
 {
-    let letter = table_walk::walk_line(file, 0, Kind::Letter);
+    let letter = line_walk::walk_line(file, 0, Kind::Letter);
     let title = table_walk::walk_lines(file, letter, Kind::Title, 1);
     let objects = table_walk::walk_lines(file, title, Kind::Objects, 1);
     let attributes = table_walk::walk_lines(file, objects, Kind::Attributes, 1);

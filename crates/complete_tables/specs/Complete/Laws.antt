@@ -12,7 +12,8 @@ use Rattle.table_layout.specs.declared.Opened.the-variants.{Refused, Found}
 use Rattle.session.specs.Refusals.{refusal}
 use Rattle.table_lines.specs.Lines.{lineOf, bytesAt, after}
 use Rattle.table_layout.specs.Layout.{openedOf, layoutOf}
-use Rattle.table_walk.specs.Walk.{lineFault, walk, rest, Passes}
+use Rattle.line_walk.specs.Walk.{lineFault, walk}
+use Rattle.table_walk.specs.Walk.{rest, Passes}
 use borrow.Author.Tests.{eqb-true}
 use Rattle.table_layout.specs.declared.Layout.{Layout}
 use Rattle.table_layout.specs.declared.Opened.{Opened}

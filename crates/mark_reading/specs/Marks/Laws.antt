@@ -15,7 +15,8 @@ use Rattle.table_counts.specs.Counts.{decimalFrom, isCount, countOf}
 use Rattle.line_faults.specs.Faults.{fault}
 use Rattle.table_lines.specs.Lines.{lineOf, bytesAt, after}
 use Rattle.table_layout.specs.Layout.{openedOf, layoutOf}
-use Rattle.table_walk.specs.Walk.{lineFault, walk, rest}
+use Rattle.line_walk.specs.Walk.{lineFault, walk}
+use Rattle.table_walk.specs.Walk.{rest}
 use native.Mathlib.Nat.{add-zero}
 use Rattle.table_layout.specs.declared.Layout.{Layout}
 use Rattle.machine.specs.Checks.{mostObjects, badLength}

@@ -11,7 +11,8 @@ use lib.Seq.{drop-drop, take-suc-set, drop-set-lt}
 use Rattle.table_kinds.specs.declared.Kind.the-variants.{Marks}
 use Rattle.table_lines.specs.Lines.{bytesAt, after}
 use Rattle.context.specs.Objects.{Object}
-use Rattle.table_walk.specs.Walk.{walk, Passes}
+use Rattle.line_walk.specs.Walk.{walk}
+use Rattle.table_walk.specs.Walk.{Passes}
 use Rattle.table_rows.specs.Rows.{rowOf, rowsFrom}
 use Rattle.mark_reading.specs.Marks.{flat}
 use Rattle.table_walk.specs.Walk.Passed.{NextLine, next-line}

@@ -4,7 +4,7 @@ use mathlib.Core.List.{List, [], _∷_}
 use Prim.Native.Nat.{ℕ}
 use borrow.Author.Needs.{needs}
 use Rattle.table_kinds.specs.declared.Kind.the-variants.{Letter, Title, Objects, Attributes}
-use Rattle.table_walk.specs.Walk.{walk}
+use Rattle.line_walk.specs.Walk.{walk}
 use Rattle.table_walk.specs.Walk.Laws.{walk-then}
 use Rattle.table_layout.proofs.walk_header.Statement.{statement}
 use Rattle.table_layout.proofs.walk_header.Tie as tie

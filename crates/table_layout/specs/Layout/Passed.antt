@@ -9,11 +9,12 @@ use lib.ListN.{length, replicate}
 use lib.Dec.{ltb}
 use Rattle.table_kinds.specs.declared.Kind.the-variants.{Objects, Attributes, Marks}
 use Rattle.table_layout.specs.declared.Opened.the-variants.{Refused, Found}
-use Rattle.table_walk.specs.declared.Walk.{Walk}
-use Rattle.table_walk.specs.declared.Walk.the-variants.{Failed, At}
+use Rattle.line_walk.specs.declared.Walk.{Walk}
+use Rattle.line_walk.specs.declared.Walk.the-variants.{Failed, At}
 use Rattle.session.specs.Refusals.{refusal}
 use Rattle.table_layout.specs.Layout.{mostBytes, objectCount, attributeCount, header, toAttributeNames, toMarks, toEnd, layoutOf, openedFrom, openedOf, objectsAt, attributesAt}
-use Rattle.table_walk.specs.Walk.{walk, rest, thenRest, Passes}
+use Rattle.line_walk.specs.Walk.{walk}
+use Rattle.table_walk.specs.Walk.{rest, thenRest, Passes}
 use Rattle.table_layout.specs.declared.Layout.{Layout}
 use Rattle.machine.specs.Checks.{mostAttributes, mostObjects}
 use Rattle.table_walk.specs.Walk.Laws.{place-inside}

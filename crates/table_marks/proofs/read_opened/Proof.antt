@@ -9,7 +9,8 @@ use Rattle.context.specs.Objects.{Object}
 use Rattle.machine.specs.Checks.{mostAttributes}
 use Rattle.table_kinds.specs.declared.Kind.the-variants.{Marks}
 use Rattle.table_layout.specs.declared.Opened.the-variants.{Refused}
-use Rattle.table_walk.specs.Walk.{walk, Passes}
+use Rattle.line_walk.specs.Walk.{walk}
+use Rattle.table_walk.specs.Walk.{Passes}
 use Rattle.table_walk.specs.Walk.Passed.{passes-from}
 use Rattle.table_layout.specs.Layout.Passed.{table-marks, starts-inside}
 use Rattle.mark_reading.specs.Marks.{flat, readingFrom}

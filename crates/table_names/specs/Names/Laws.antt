@@ -17,7 +17,8 @@ use Rattle.table_lines.specs.Lines.{lineOf, bytesAt, after}
 use Rattle.table_lines.specs.Lines.Laws.{bytes-inside, after-inside}
 use Rattle.line_tests.specs.Tests.{mostNameBytes}
 use Rattle.line_faults.specs.Faults.{fault}
-use Rattle.table_walk.specs.Walk.{lineFault, walk, Passes}
+use Rattle.line_walk.specs.Walk.{lineFault, walk}
+use Rattle.table_walk.specs.Walk.{Passes}
 use Rattle.table_layout.specs.Layout.{header, toAttributeNames, toMarks, objectCount, attributeCount, layoutOf, openedOf}
 use Rattle.found_layout.specs.Found.{finds}
 use Rattle.found_layout.specs.Found.Laws.{finds-table}

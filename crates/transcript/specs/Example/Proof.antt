@@ -12,7 +12,8 @@ use Rattle.table_lines.specs.Lines.{lineOf}
 use Rattle.line_bytes.specs.Everywhere.{everywhere}
 use Rattle.table_counts.specs.Counts.{decimalFrom, isCount, countOf}
 use Rattle.line_faults.specs.Faults.{fault}
-use Rattle.table_walk.specs.Walk.{lineFault, walk, rest}
+use Rattle.line_walk.specs.Walk.{lineFault, walk}
+use Rattle.table_walk.specs.Walk.{rest}
 use Rattle.table_layout.specs.Layout.{layoutOf, openedOf}
 use Rattle.table_rows.specs.Rows.{wordOf, rowsFrom}
 use Rattle.complete_tables.specs.Complete.{completeFrom}

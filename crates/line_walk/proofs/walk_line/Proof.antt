@@ -9,13 +9,13 @@ use Rattle.table_lines.specs.declared.Line.{Line}
 use Rattle.table_lines.specs.Lines.{lineOf, after}
 use Rattle.table_lines.specs.Lines.Laws.{bytes-inside, after-inside}
 use Rattle.session.specs.Refusals.{refusal}
-use Rattle.table_walk.specs.declared.Walk.the-variants.{Failed, At}
+use Rattle.line_walk.specs.declared.Walk.the-variants.{Failed, At}
 use Rattle.line_faults.specs.Faults.{fault}
-use Rattle.table_walk.specs.Walk.{lineFault, walk}
+use Rattle.line_walk.specs.Walk.{lineFault, walk}
 use Rattle.table_kinds.specs.Kinds.Laws.{absent-some}
-use Rattle.table_walk.specs.Walk.Laws.{fault-there, fault-missing, walk-passed, walk-failed}
-use Rattle.table_walk.proofs.walk_line.Statement.{statement}
-use Rattle.table_walk.proofs.walk_line.Tie as tie
+use Rattle.line_walk.specs.Walk.Laws.{fault-there, fault-missing, walk-passed, walk-failed}
+use Rattle.line_walk.proofs.walk_line.Statement.{statement}
+use Rattle.line_walk.proofs.walk_line.Tie as tie
 
 abbrev start : tie.After-line-at → tie.Start
 start c = c .before .before .before
