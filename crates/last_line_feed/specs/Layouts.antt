@@ -26,7 +26,8 @@ use Rattle.session.specs.Refusals.{refusal}
 use Rattle.table_lines.specs.Lines.{lineFeed, carriageReturn, feeds, longer, lineOf, bytesAt, after}
 use Rattle.table_lines.specs.Lines.Laws.{line-none, line-feed, line-return, line-on, step-inside, size-inside}
 use Rattle.table_counts.specs.Counts.{countOf}
-use Rattle.table_layout.specs.Layout.{mostBytes, attributesAt, objectCount, attributeCount, header, toAttributeNames, toMarks, toEnd, layoutOf, openedFrom, openedOf}
+use Rattle.table_header.specs.Header.{attributesAt, objectCount, attributeCount, header}
+use Rattle.table_layout.specs.Layout.{mostBytes, toAttributeNames, toMarks, toEnd, layoutOf, openedFrom, openedOf}
 use Rattle.line_faults.specs.Faults.{fault}
 use Rattle.line_walk.specs.Walk.{lineFault, walk}
 use Rattle.table_walk.specs.Walk.{rest, placeOf, Passes, thenRest}

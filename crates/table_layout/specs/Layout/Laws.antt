@@ -11,7 +11,8 @@ use Rattle.table_lines.specs.Lines.{lineOf}
 use Rattle.line_bytes.specs.Everywhere.{everywhere}
 use Rattle.table_counts.specs.Counts.{decimalFrom, isCount, countOf}
 use Rattle.line_faults.specs.Faults.{fault}
-use Rattle.table_layout.specs.Layout.{mostBytes, objectCount, attributeCount, header, toAttributeNames, toMarks, toEnd, layout, layoutOf, openedFrom, openedOf}
+use Rattle.table_header.specs.Header.{objectCount, attributeCount, header}
+use Rattle.table_layout.specs.Layout.{mostBytes, toAttributeNames, toMarks, toEnd, layout, layoutOf, openedFrom, openedOf}
 use Rattle.line_walk.specs.Walk.{lineFault, walk}
 use Rattle.table_walk.specs.Walk.{rest, placeOf, thenRest}
 

@@ -12,7 +12,8 @@ use Rattle.table_layout.specs.declared.Opened.the-variants.{Refused, Fou
 use Rattle.line_walk.specs.declared.Walk.{Walk}
 use Rattle.line_walk.specs.declared.Walk.the-variants.{Failed, At}
 use Rattle.session.specs.Refusals.{refusal}
-use Rattle.table_layout.specs.Layout.{mostBytes, objectCount, attributeCount, header, toAttributeNames, toMarks, toEnd, layoutOf, openedFrom, openedOf, objectsAt, attributesAt}
+use Rattle.table_header.specs.Header.{objectCount, attributeCount, header, objectsAt, attributesAt}
+use Rattle.table_layout.specs.Layout.{mostBytes, toAttributeNames, toMarks, toEnd, layoutOf, openedFrom, openedOf}
 use Rattle.line_walk.specs.Walk.{walk}
 use Rattle.table_walk.specs.Walk.{rest, thenRest, Passes}
 use Rattle.table_layout.specs.declared.Layout.{Layout}

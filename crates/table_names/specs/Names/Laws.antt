@@ -19,7 +19,8 @@ use Rattle.line_tests.specs.Tests.{mostNameBytes}
 use Rattle.line_faults.specs.Faults.{fault}
 use Rattle.line_walk.specs.Walk.{lineFault, walk}
 use Rattle.table_walk.specs.Walk.{Passes}
-use Rattle.table_layout.specs.Layout.{header, toAttributeNames, toMarks, objectCount, attributeCount, layoutOf, openedOf}
+use Rattle.table_header.specs.Header.{header, objectCount, attributeCount}
+use Rattle.table_layout.specs.Layout.{toAttributeNames, toMarks, layoutOf, openedOf}
 use Rattle.found_layout.specs.Found.{finds}
 use Rattle.found_layout.specs.Found.Laws.{finds-table}
 use Rattle.line_tests.specs.Tests.Laws.{unless-fine}

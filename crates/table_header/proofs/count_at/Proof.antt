@@ -8,8 +8,8 @@ use Rattle.table_lines.specs.declared.Line.{Line}
 use Rattle.table_lines.specs.Lines.{lineOf}
 use Rattle.table_lines.specs.Lines.Laws.{bytes-inside}
 use Rattle.table_counts.specs.Counts.{countOf}
-use Rattle.table_layout.proofs.count_at.Statement.{statement}
-use Rattle.table_layout.proofs.count_at.Tie as tie
+use Rattle.table_header.proofs.count_at.Statement.{statement}
+use Rattle.table_header.proofs.count_at.Tie as tie
 
 -- the line found is the file's
 size : (c : tie.After-line-at)

@@ -6,8 +6,8 @@ use borrow.Author.Needs.{needs}
 use Rattle.table_kinds.specs.declared.Kind.the-variants.{Letter, Title, Objects, Attributes}
 use Rattle.line_walk.specs.Walk.{walk}
 use Rattle.table_walk.specs.Walk.Laws.{walk-then}
-use Rattle.table_layout.proofs.walk_header.Statement.{statement}
-use Rattle.table_layout.proofs.walk_header.Tie as tie
+use Rattle.table_header.proofs.walk_header.Statement.{statement}
+use Rattle.table_header.proofs.walk_header.Tie as tie
 
 abbrev file : tie.After-walk-lines → List ℕ
 file c = c .before .before .before .args .file .now
