@@ -13,7 +13,7 @@ use Rattle.answer_words.specs.Codes.{coded, LentAnswer}
 use Rattle.table_layout.specs.declared.Layout.{Layout}
 use Rattle.table_layout.specs.declared.Opened.{Opened}
 use Rattle.table_layout.specs.declared.Opened.the-variants.{Found, Refused}
-use Rattle.table_marks.specs.Marks.{readingAs, rowWords}
+use Rattle.mark_reading.specs.Marks.{readingAs, rowWords}
 use Rattle.table_names.specs.declared.Span.{Span}
 pub mod Laws
 

@@ -4,7 +4,8 @@ use mathlib.Core.List.{List}
 use Prim.Native.Nat.{ℕ, zero, suc}
 use Rattle.session.specs.Refusals.{refusal}
 use Rattle.table_lines.specs.Lines.{bytesAt, after}
-use Rattle.table_bytes.specs.Bytes.{isKnown, everywhere}
+use Rattle.table_bytes.specs.Bytes.{isKnown}
+use Rattle.line_bytes.specs.Everywhere.{everywhere}
 use Rattle.table_layout.specs.Layout.{openedOf}
 use Rattle.table_layout.specs.declared.Layout.{Layout}
 use Rattle.table_layout.specs.declared.Opened.{Opened}

@@ -17,7 +17,7 @@ fn complete_from(file: &[u8], layout: Layout) -> Opened
     let mut i = 0;
     while i < count {
         let end = at + n;
-        if !table_bytes::all_pass(&file[at..end], table_bytes::ByteKind::Known) {
+        if !line_bytes::all_pass(&file[at..end], table_bytes::ByteKind::Known) {
             return Opened::Refused(session::refuse(29, at));
         }
         at = table_lines::next_at(file, end);

@@ -17,20 +17,23 @@ use Rattle.table_kinds.specs.declared.Kind.{Kind}
 use Rattle.table_kinds.specs.declared.Kind.the-variants.{Letter, Title, Objects, Attributes, Name, Marks}
 use Rattle.table_lines.specs.declared.Line.{Line}
 use Rattle.session.specs.declared.Refusal.{Refusal}
-use Rattle.table_walk.specs.declared.Walk.{Walk}
-use Rattle.table_walk.specs.declared.Walk.the-variants.{Failed, At}
+use Rattle.line_walk.specs.declared.Walk.{Walk}
+use Rattle.line_walk.specs.declared.Walk.the-variants.{Failed, At}
 use Rattle.table_layout.specs.declared.Layout.{Layout}
 use Rattle.table_layout.specs.declared.Opened.{Opened}
 use Rattle.table_layout.specs.declared.Opened.the-variants.{Found, Refused}
 use Rattle.session.specs.Refusals.{refusal}
 use Rattle.table_lines.specs.Lines.{lineFeed, carriageReturn, feeds, longer, lineOf, bytesAt, after}
 use Rattle.table_lines.specs.Lines.Laws.{line-none, line-feed, line-return, line-on, step-inside, size-inside}
-use Rattle.table_bytes.specs.Bytes.{countOf}
-use Rattle.table_layout.specs.Layout.{mostBytes, attributesAt, objectCount, attributeCount, header, toAttributeNames, toMarks, toEnd, layoutOf, openedFrom, openedOf}
-use Rattle.table_kinds.specs.Kinds.{fault}
-use Rattle.table_walk.specs.Walk.{lineFault, walk, rest, placeOf, Passes, thenRest}
-use Rattle.table_walk.specs.Walk.Laws.{fault-there, fault-missing, rest-end, rest-enough}
-use Rattle.table_kinds.specs.Kinds.Laws.{attributes-fine}
+use Rattle.table_counts.specs.Counts.{countOf}
+use Rattle.table_header.specs.Header.{attributesAt, objectCount, attributeCount, header}
+use Rattle.table_layout.specs.Layout.{mostBytes, toAttributeNames, toMarks, toEnd, layoutOf, openedFrom, openedOf}
+use Rattle.line_faults.specs.Faults.{fault}
+use Rattle.line_walk.specs.Walk.{lineFault, walk}
+use Rattle.table_walk.specs.Walk.{rest, placeOf, Passes, thenRest}
+use Rattle.line_walk.specs.Walk.Laws.{fault-there, fault-missing}
+use Rattle.table_walk.specs.Walk.Laws.{rest-end, rest-enough}
+use Rattle.line_faults.specs.Faults.Laws.{attributes-fine}
 use Rattle.table_walk.specs.Walk.Passed.{line-there, passes-cons, passes-append}
 
 -- ---- what alike means

@@ -8,7 +8,8 @@ use native.Mathlib.Omega.{arith}
 use lib.ListN.{length, replicate}
 use Rattle.table_lines.specs.Lines.{after}
 use Rattle.table_layout.specs.Layout.{mostBytes, openedOf}
-use Rattle.table_walk.specs.Walk.{walk, Passes}
+use Rattle.line_walk.specs.Walk.{walk}
+use Rattle.table_walk.specs.Walk.{Passes}
 use Rattle.table_walk.specs.Walk.Passed.{line-there, passes-cons}
 use Rattle.table_layout.specs.Layout.Passed.{table-marks}
 use Rattle.last_line_feed.specs.Layouts.{SameAt, Alike, bytes-same, after-same, last-line-feed}

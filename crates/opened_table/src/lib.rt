@@ -2,7 +2,7 @@
 ghost use mathlib.Core.Path.{_≡_};
 ghost use lib.ListN.{length};
 ghost use Rattle.table_layout.specs.Layout.{openedOf};
-ghost use Rattle.table_marks.specs.Marks.{readingAs, rowWords};
+ghost use Rattle.mark_reading.specs.Marks.{readingAs, rowWords};
 ghost use Rattle.opened_table.specs.Views.{Opens, OpensView, ObjectNamed, AttributeNamed};
 use answer_words::Answer;
 use table_layout::Layout;

@@ -9,7 +9,7 @@ use Rattle.text.specs.Text.{numberText, space, newline}
 use Rattle.refusal_words.specs.Words.{bytes, joined, lineNumber, sentence}
 use Rattle.table_layout.specs.declared.Opened.{Opened}
 use Rattle.table_layout.specs.declared.Opened.the-variants.{Found, Refused}
-use Rattle.table_layout.specs.Layout.{attributeCount}
+use Rattle.table_header.specs.Header.{attributeCount}
 use Rattle.complete_tables.specs.Complete.{openedComplete}
 use Rattle.line_numbers.specs.Numbers.{numberOfLine}
 use Rattle.file_mistakes.specs.Mistakes.{looksLike, mistakePhrase}

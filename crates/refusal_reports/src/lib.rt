@@ -46,7 +46,7 @@ fn put_marks(out: &mut [u8], at: usize, file: &[u8], number: u64) -> usize
     ensures { λ r. ⌜ Puts out at r (marksText (now (file .entry)) number) ⌝ }
 {
     if number == 27 {
-        let counted = text::put_number(out, at, table_layout::attribute_count(file) as u64);
+        let counted = text::put_number(out, at, table_header::attribute_count(file) as u64);
         return text::put_byte(out, counted, b' ');
     }
     at

@@ -1,21 +1,21 @@
 -- Burmeister's layout (01, "The table file"): which lines a table file has, and what an opened table keeps. An object is 01's row, an
 -- attribute its property.
 use mathlib.Core.Bool.{true, false}
-use mathlib.Core.List.{List, [], _∷_, _++_}
+use mathlib.Core.List.{List, _++_}
 use Prim.Native.Nat.{ℕ}
 use lib.ListN.{length, replicate}
 use lib.Dec.{ltb}
 use Rattle.session.specs.Refusals.{refusal}
-use Rattle.table_bytes.specs.Bytes.{countOf}
-use Rattle.table_lines.specs.Lines.{bytesAt, after}
 use Rattle.table_kinds.specs.declared.Kind.{Kind}
-use Rattle.table_kinds.specs.declared.Kind.the-variants.{Letter, Title, Objects, Attributes, Blank, Name, Marks}
-use Rattle.table_walk.specs.declared.Walk.{Walk}
-use Rattle.table_walk.specs.declared.Walk.the-variants.{Failed, At}
+use Rattle.table_kinds.specs.declared.Kind.the-variants.{Name, Marks}
+use Rattle.line_walk.specs.declared.Walk.{Walk}
+use Rattle.line_walk.specs.declared.Walk.the-variants.{Failed, At}
 use Rattle.table_layout.specs.declared.Layout.{Layout}
 use Rattle.table_layout.specs.declared.Opened.{Opened}
 use Rattle.table_layout.specs.declared.Opened.the-variants.{Found, Refused}
-use Rattle.table_walk.specs.Walk.{walk, placeOf, thenRest}
+use Rattle.line_walk.specs.Walk.{walk}
+use Rattle.table_header.specs.Header.{objectCount, attributeCount, header}
+use Rattle.table_walk.specs.Walk.{placeOf, thenRest}
 pub mod Laws
 pub mod Passed
 
@@ -23,23 +23,7 @@ pub mod Passed
 abbrev pub mostBytes : ℕ
 mostBytes = 65535
 
--- the offsets of the count lines: the third and the fourth
-abbrev pub objectsAt : List ℕ → ℕ
-objectsAt file = after file (after file 0)
-
-abbrev pub attributesAt : List ℕ → ℕ
-attributesAt file = after file (objectsAt file)
-
-abbrev pub objectCount : List ℕ → ℕ
-objectCount file = countOf (bytesAt file (objectsAt file))
-
-abbrev pub attributeCount : List ℕ → ℕ
-attributeCount file = countOf (bytesAt file (attributesAt file))
-
--- the lines: `B`, a title, the two counts, an empty line; the objects' names; the attributes' names; the lines of marks
-abbrev pub header : List Kind
-header = Letter ∷ Title ∷ Objects ∷ Attributes ∷ Blank ∷ []
-
+-- the lines: the first five; the objects' names; the attributes' names; the lines of marks
 abbrev pub toAttributeNames : List ℕ → List Kind
 toAttributeNames file = header ++ replicate (objectCount file) Name
 

@@ -7,11 +7,12 @@ ghost use Rattle.machine.specs.Checks.{mostAttributes, mostObjects, badLength};
 ghost use Rattle.table_kinds.specs.declared.Kind.the-variants.{Marks};
 ghost use Rattle.table_layout.specs.declared.Layout.{Layout as LayoutT};
 ghost use Rattle.table_layout.specs.declared.Opened.the-variants.{Found};
-ghost use Rattle.table_walk.specs.Walk.{walk, Passes};
+ghost use Rattle.line_walk.specs.Walk.{walk};
+ghost use Rattle.table_walk.specs.Walk.{Passes};
 ghost use Rattle.table_layout.specs.Layout.{openedOf};
 ghost use Rattle.table_rows.specs.Rows.{rowsFrom};
-ghost use Rattle.table_marks.specs.Marks.{flat, readingFrom, reading, readingAs, rowWords, wordsRead};
-ghost use Rattle.table_marks.specs.Marks.{completeReading, completeWordsRead};
+ghost use Rattle.mark_reading.specs.Marks.{flat, readingFrom, reading, readingAs, rowWords, wordsRead};
+ghost use Rattle.mark_reading.specs.Marks.{completeReading, completeWordsRead};
 use table_layout::Layout;
 use table_layout::Opened;
 

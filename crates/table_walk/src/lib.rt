@@ -1,31 +1,9 @@
 // The lines of a table file in order: the first one that is refused, or where they end.
 ghost use mathlib.Core.Path.{_≡_};
-ghost use mathlib.Core.List.{[], _∷_};
 ghost use lib.ListN.{length, replicate};
-ghost use Rattle.table_walk.specs.Walk.{walk, walkOn, rest, thenRest, placeOf};
+ghost use Rattle.table_walk.specs.Walk.{walkOn, rest, thenRest, placeOf};
+use line_walk::Walk;
 use table_kinds::Kind;
-
-// Lines in order: the first that is refused, or the offset where they end.
-pub enum Walk {
-    Failed(session::Refusal),
-    At(usize),
-}
-
-// One line of the kind: the refusal, or where the next line begins.
-pub fn walk_line(file: &[u8], at: usize, kind: Kind) -> Walk
-    ensures { λ r. ⌜ r ≡ walk (kind ∷ []) (now (file .entry)) at ⌝ }
-{
-    if file.len() <= at {
-        return Walk::Failed(session::refuse(table_kinds::absent_of(kind), at));
-    }
-    let line = table_lines::line_at(file, at);
-    let end = at + line.size;
-    let number = table_kinds::fault_of(&file[at..end], kind);
-    if number != 0 {
-        return Walk::Failed(session::refuse(number, at));
-    }
-    Walk::At(at + line.step)
-}
 
 // After a walk, so many lines of a kind.
 pub fn walk_lines(file: &[u8], walked: Walk, kind: Kind, count: usize) -> Walk
@@ -39,7 +17,7 @@ pub fn walk_lines(file: &[u8], walked: Walk, kind: Kind, count: usize) -> Walk
                 return Walk::Failed(refusal);
             }
             Walk::At(at) => {
-                w = walk_line(file, at, kind);
+                w = line_walk::walk_line(file, at, kind);
             }
         }
         i += 1;

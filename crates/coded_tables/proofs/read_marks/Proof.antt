@@ -4,7 +4,7 @@ use mathlib.Core.List.{List}
 use Prim.Native.Nat.{ℕ}
 use Rattle.answer_words.specs.declared.Answer.{Answer as Coded}
 use Rattle.table_layout.specs.declared.Opened.{Opened}
-use Rattle.table_marks.specs.Marks.{rowWords}
+use Rattle.mark_reading.specs.Marks.{rowWords}
 use Rattle.coded_tables.specs.Tables.{codeOfOpened, MarksRead}
 use borrow.Author.Needs.{needs}
 use Rattle.coded_tables.proofs.read_marks.Statement.{statement}

@@ -7,10 +7,12 @@ use lib.ListN.{take, drop, replicate}
 use borrow.Author.Needs.{needs}
 use borrow.Author.Tests.{not-true, not-false}
 use Rattle.table_lines.specs.Lines.{bytesAt}
-use Rattle.table_bytes.specs.Bytes.{isKnown, everywhere}
+use Rattle.table_bytes.specs.Bytes.{isKnown}
+use Rattle.line_bytes.specs.Everywhere.{everywhere}
 use Rattle.table_kinds.specs.declared.Kind.the-variants.{Marks}
 use Rattle.table_layout.specs.declared.Opened.the-variants.{Refused}
-use Rattle.table_walk.specs.Walk.{walk, Passes}
+use Rattle.line_walk.specs.Walk.{walk}
+use Rattle.table_walk.specs.Walk.{Passes}
 use Rattle.table_layout.specs.Layout.Passed.{table-marks}
 use Rattle.table_walk.specs.Walk.Passed.{NextLine, next-line}
 use Rattle.complete_tables.specs.Complete.{completeFrom}

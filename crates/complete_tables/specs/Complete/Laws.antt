@@ -7,12 +7,13 @@ use Prim.Native.Nat.{ℕ, zero, suc, _<_, _+_, _*_, _/_, _%_, min, max}
 use native.Mathlib.Omega.{arith}
 use lib.ListN.{length, replicate}
 use Rattle.table_kinds.specs.declared.Kind.the-variants.{Marks}
-use Rattle.table_kinds.specs.Kinds.{fault}
+use Rattle.line_faults.specs.Faults.{fault}
 use Rattle.table_layout.specs.declared.Opened.the-variants.{Refused, Found}
 use Rattle.session.specs.Refusals.{refusal}
 use Rattle.table_lines.specs.Lines.{lineOf, bytesAt, after}
 use Rattle.table_layout.specs.Layout.{openedOf, layoutOf}
-use Rattle.table_walk.specs.Walk.{lineFault, walk, rest, Passes}
+use Rattle.line_walk.specs.Walk.{lineFault, walk}
+use Rattle.table_walk.specs.Walk.{rest, Passes}
 use borrow.Author.Tests.{eqb-true}
 use Rattle.table_layout.specs.declared.Layout.{Layout}
 use Rattle.table_layout.specs.declared.Opened.{Opened}
@@ -25,12 +26,14 @@ use Rattle.theory.specs.Lists.Laws.{all-nil, all-cons}
 use Rattle.attribute_set.specs.Sets.{full}
 use Rattle.attribute_set.specs.Sets.Laws.{and-apart}
 use Rattle.context.specs.Tables.{Complete, Table}
-use Rattle.table_bytes.specs.Bytes.{isYes, isNo, isUnknown, isKnown, isMark, everywhere, decimalFrom, isCount, countOf}
-use Rattle.table_bytes.specs.Bytes.Laws.{everywhere-cons}
+use Rattle.table_bytes.specs.Bytes.{isYes, isNo, isUnknown, isKnown, isMark}
+use Rattle.line_bytes.specs.Everywhere.{everywhere}
+use Rattle.table_counts.specs.Counts.{decimalFrom, isCount, countOf}
+use Rattle.line_bytes.specs.Everywhere.Laws.{everywhere-cons}
 use Rattle.table_layout.specs.Layout.Passed.{table-marks}
 use Rattle.table_rows.specs.Rows.Laws.{bit-lt}
 use Rattle.complete_tables.specs.Complete.{completeFrom, completeOf, openedComplete}
-use Rattle.table_kinds.specs.Kinds.Laws.{marks-fine}
+use Rattle.line_faults.specs.Faults.Laws.{marks-fine}
 
 -- `B`, an empty title, two rows and one property with their names, and the marks `X` and `?`
 abbrev unknown : List ℕ

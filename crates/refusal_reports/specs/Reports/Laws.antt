@@ -5,7 +5,7 @@ use mathlib.Core.List.{List, [], _++_}
 use Prim.Native.Nat.{ℕ}
 use borrow.Author.Tests.{eq-eqb, ne-eqb}
 use Rattle.text.specs.Text.{numberText, space}
-use Rattle.table_layout.specs.Layout.{attributeCount}
+use Rattle.table_header.specs.Header.{attributeCount}
 use Rattle.refusal_words.specs.Words.{bytes}
 use Rattle.file_mistakes.specs.Mistakes.{looksLike, mistakePhrase}
 use Rattle.refusal_reports.specs.Reports.{marksText, mistakeText}

@@ -13,8 +13,8 @@ use Rattle.machine.specs.Machine.{opening}
 use Rattle.machine.specs.Calls.{openingFrom}
 use Rattle.session_opening.specs.Opening.{openingOf}
 use Rattle.session_opening.specs.declared.Opened.{Opened as Session·Opened}
-use Rattle.table_marks.specs.Marks.{rowWords, completeReading, completeWordsRead}
-use Rattle.table_marks.specs.Marks.Laws.{rows-held, complete-reading, complete-words}
+use Rattle.mark_reading.specs.Marks.{rowWords, completeReading, completeWordsRead}
+use Rattle.mark_reading.specs.Marks.Laws.{rows-held, complete-reading, complete-words}
 use Rattle.table_layout.specs.Layout.Passed.{table-objects}
 use Rattle.complete_tables.specs.Complete.Laws.{complete-layout, complete-table}
 use Rattle.table_layout.specs.declared.Layout.{Layout}

@@ -7,8 +7,10 @@ use borrow.Author.Needs.{needs}
 use Rattle.table_layout.specs.declared.Layout.{Layout}
 use Rattle.table_kinds.specs.declared.Kind.the-variants.{Marks}
 use Rattle.table_layout.specs.declared.Opened.the-variants.{Refused}
-use Rattle.table_walk.specs.Walk.{walk, placeOf, thenRest}
-use Rattle.table_layout.specs.Layout.{header, toAttributeNames, toMarks, toEnd, layout, layoutOf, openedFrom}
+use Rattle.line_walk.specs.Walk.{walk}
+use Rattle.table_walk.specs.Walk.{placeOf, thenRest}
+use Rattle.table_header.specs.Header.{header}
+use Rattle.table_layout.specs.Layout.{toAttributeNames, toMarks, toEnd, layout, layoutOf, openedFrom}
 use Rattle.table_walk.specs.Walk.Laws.{walk-then}
 use Rattle.table_layout.specs.Layout.Laws.{layout-same, opened-long, opened-walked}
 use Rattle.table_layout.proofs.open.Statement.{statement}

@@ -5,13 +5,16 @@ use Prim.Native.Nat.{ℕ, _≤_, _<_}
 use lib.ListN.{length}
 use borrow.Author.Tests.{lt-ltb, le-ltb}
 use Rattle.table_layout.specs.declared.Opened.the-variants.{Found, Refused}
-use Rattle.table_walk.specs.declared.Walk.{Walk}
+use Rattle.line_walk.specs.declared.Walk.{Walk}
 use Rattle.session.specs.Refusals.{refusal}
 use Rattle.table_lines.specs.Lines.{lineOf}
-use Rattle.table_bytes.specs.Bytes.{everywhere, decimalFrom, isCount, countOf}
-use Rattle.table_kinds.specs.Kinds.{fault}
-use Rattle.table_layout.specs.Layout.{mostBytes, objectCount, attributeCount, header, toAttributeNames, toMarks, toEnd, layout, layoutOf, openedFrom, openedOf}
-use Rattle.table_walk.specs.Walk.{lineFault, walk, rest, placeOf, thenRest}
+use Rattle.line_bytes.specs.Everywhere.{everywhere}
+use Rattle.table_counts.specs.Counts.{decimalFrom, isCount, countOf}
+use Rattle.line_faults.specs.Faults.{fault}
+use Rattle.table_header.specs.Header.{objectCount, attributeCount, header}
+use Rattle.table_layout.specs.Layout.{mostBytes, toAttributeNames, toMarks, toEnd, layout, layoutOf, openedFrom, openedOf}
+use Rattle.line_walk.specs.Walk.{lineFault, walk}
+use Rattle.table_walk.specs.Walk.{rest, placeOf, thenRest}
 
 -- `B`, an empty title, one row and one property with their names, and the marks `X` without line feed
 abbrev small : List ℕ

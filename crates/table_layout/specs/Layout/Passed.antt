@@ -9,16 +9,18 @@ use lib.ListN.{length, replicate}
 use lib.Dec.{ltb}
 use Rattle.table_kinds.specs.declared.Kind.the-variants.{Objects, Attributes, Marks}
 use Rattle.table_layout.specs.declared.Opened.the-variants.{Refused, Found}
-use Rattle.table_walk.specs.declared.Walk.{Walk}
-use Rattle.table_walk.specs.declared.Walk.the-variants.{Failed, At}
+use Rattle.line_walk.specs.declared.Walk.{Walk}
+use Rattle.line_walk.specs.declared.Walk.the-variants.{Failed, At}
 use Rattle.session.specs.Refusals.{refusal}
-use Rattle.table_layout.specs.Layout.{mostBytes, objectCount, attributeCount, header, toAttributeNames, toMarks, toEnd, layoutOf, openedFrom, openedOf, objectsAt, attributesAt}
-use Rattle.table_walk.specs.Walk.{walk, rest, thenRest, Passes}
+use Rattle.table_header.specs.Header.{objectCount, attributeCount, header, objectsAt, attributesAt}
+use Rattle.table_layout.specs.Layout.{mostBytes, toAttributeNames, toMarks, toEnd, layoutOf, openedFrom, openedOf}
+use Rattle.line_walk.specs.Walk.{walk}
+use Rattle.table_walk.specs.Walk.{rest, thenRest, Passes}
 use Rattle.table_layout.specs.declared.Layout.{Layout}
 use Rattle.machine.specs.Checks.{mostAttributes, mostObjects}
 use Rattle.table_walk.specs.Walk.Laws.{place-inside}
 use Rattle.table_walk.specs.Walk.Passed.{line-there, passes-cons, passes-append}
-use Rattle.table_kinds.specs.Kinds.Laws.{objects-fine, attributes-fine}
+use Rattle.line_faults.specs.Faults.Laws.{objects-fine, attributes-fine}
 
 module _ (file : List ℕ) where
   -- both counts of a file whose lines pass are in range

@@ -4,9 +4,9 @@ use borrow.Author.Needs.{needs}
 use lib.ListN.{length}
 use Rattle.table_layout.specs.declared.Opened.the-variants.{Refused}
 use Rattle.table_layout.specs.Layout.{openedOf}
-use Rattle.table_marks.specs.Marks.Laws.{reading-bad, reading-fine}
+use Rattle.mark_reading.specs.Marks.Laws.{reading-bad, reading-fine}
 use Rattle.found_layout.specs.Found.Laws.{as-layout}
-use Rattle.table_marks.specs.Marks.{readingFrom}
+use Rattle.mark_reading.specs.Marks.{readingFrom}
 use Rattle.found_layout.specs.Found.{openedAs}
 use Rattle.table_marks.proofs.read_marks_of.Statement.{statement}
 use Rattle.table_marks.proofs.read_marks_of.Tie as tie

@@ -9,11 +9,12 @@ use Rattle.context.specs.Objects.{Object}
 use Rattle.machine.specs.Checks.{mostAttributes}
 use Rattle.table_kinds.specs.declared.Kind.the-variants.{Marks}
 use Rattle.table_layout.specs.declared.Opened.the-variants.{Refused}
-use Rattle.table_walk.specs.Walk.{walk, Passes}
+use Rattle.line_walk.specs.Walk.{walk}
+use Rattle.table_walk.specs.Walk.{Passes}
 use Rattle.table_walk.specs.Walk.Passed.{passes-from}
 use Rattle.table_layout.specs.Layout.Passed.{table-marks, starts-inside}
-use Rattle.table_marks.specs.Marks.{flat, readingFrom}
-use Rattle.table_marks.specs.Marks.Laws.{rows-from, reading-short, reading-whole}
+use Rattle.mark_reading.specs.Marks.{flat, readingFrom}
+use Rattle.mark_reading.specs.Marks.Laws.{rows-from, reading-short, reading-whole}
 use Rattle.table_marks.proofs.read_opened.Statement.{statement}
 use Rattle.table_marks.proofs.read_opened.Tie as tie
 

@@ -10,7 +10,7 @@ use Rattle.machine.specs.Checks.{mostAttributes}
 use Rattle.table_lines.specs.Lines.{bytesAt}
 use Rattle.table_rows.specs.Rows.{rowOf}
 use Rattle.table_walk.specs.Walk.Passed.{NextLine}
-use Rattle.table_marks.specs.Marks.Loop.{Reads, reads-start, next, reads-on, reads-end}
+use Rattle.mark_reading.specs.Marks.Loop.{Reads, reads-start, next, reads-on, reads-end}
 use Rattle.table_marks.proofs.read_rows.Statement.{statement}
 use Rattle.table_marks.proofs.read_rows.Tie as tie
 

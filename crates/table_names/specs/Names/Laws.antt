@@ -15,12 +15,15 @@ use Rattle.table_layout.specs.declared.Layout.{Layout}
 use Rattle.table_layout.specs.declared.Opened.the-variants.{Found}
 use Rattle.table_lines.specs.Lines.{lineOf, bytesAt, after}
 use Rattle.table_lines.specs.Lines.Laws.{bytes-inside, after-inside}
-use Rattle.table_kinds.specs.Kinds.{mostNameBytes, fault}
-use Rattle.table_walk.specs.Walk.{lineFault, walk, Passes}
-use Rattle.table_layout.specs.Layout.{header, toAttributeNames, toMarks, objectCount, attributeCount, layoutOf, openedOf}
+use Rattle.line_tests.specs.Tests.{mostNameBytes}
+use Rattle.line_faults.specs.Faults.{fault}
+use Rattle.line_walk.specs.Walk.{lineFault, walk}
+use Rattle.table_walk.specs.Walk.{Passes}
+use Rattle.table_header.specs.Header.{header, objectCount, attributeCount}
+use Rattle.table_layout.specs.Layout.{toAttributeNames, toMarks, layoutOf, openedOf}
 use Rattle.found_layout.specs.Found.{finds}
 use Rattle.found_layout.specs.Found.Laws.{finds-table}
-use Rattle.table_kinds.specs.Kinds.Laws.{unless-fine}
+use Rattle.line_tests.specs.Tests.Laws.{unless-fine}
 use Rattle.table_walk.specs.Walk.Passed.{line-there, passes-append, passes-cons}
 use Rattle.table_layout.specs.Layout.Passed.{opened-table, starts-inside}
 use Rattle.table_names.specs.declared.Span.{Span}

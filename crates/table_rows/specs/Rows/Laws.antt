@@ -13,7 +13,7 @@ use native.Mathlib.Nat.{pow-suc, lt-of-lt-of-le}
 use lib.Pow.{pow-mono}
 use Rattle.attribute_set.specs.Sets.{digit}
 use Rattle.attribute_set.specs.Sets.Laws.{digit-half, digit-high}
-use Rattle.table_bytes.specs.Bytes.Laws.{byte-at}
+use Rattle.line_bytes.specs.Everywhere.Laws.{byte-at}
 use Rattle.table_rows.specs.Rows.{bitOf, wordOf, rowOf, rowsFrom}
 
 -- computed: the row of `X?.x`, byte 0 for attribute 0, what is unknown in neither word; and a last row without line feed

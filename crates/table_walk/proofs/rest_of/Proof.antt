@@ -8,7 +8,7 @@ use borrow.Author.Needs.{needs}
 use Rattle.table_lines.specs.declared.Line.{Line}
 use Rattle.table_lines.specs.Lines.{lineOf, after}
 use Rattle.table_lines.specs.Lines.Laws.{after-inside, after-moves}
-use Rattle.table_walk.specs.declared.Walk.the-variants.{Failed}
+use Rattle.line_walk.specs.declared.Walk.the-variants.{Failed}
 use Rattle.table_walk.specs.Walk.{rest}
 use Rattle.table_walk.specs.Walk.Laws.{rest-end, rest-on, rest-stop}
 use Rattle.table_walk.proofs.rest_of.Statement.{statement}

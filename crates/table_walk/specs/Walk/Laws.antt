@@ -1,5 +1,6 @@
--- A walk as computed cases (`cases`). How it goes along the lines: lines in two parts are walked one part after the other (`walk-append`), a walk ends inside the
--- file (`place-inside`), and the walk over the empty lines does not depend on how many it may pass (`rest-enough`).
+-- The walk over the empty lines as computed cases (`cases`). How a walk goes along the lines: lines in two parts are walked one part
+-- after the other (`walk-append`), a walk ends inside the file (`place-inside`), and the walk over the empty lines does not depend on
+-- how many it may pass (`rest-enough`).
 use mathlib.Core.Path.{_≡_, refl, sym, _∙_}
 use mathlib.Core.Bool.{Bool, true, false}
 use mathlib.Core.List.{List, [], _∷_, _++_}
@@ -9,47 +10,20 @@ use lib.ListN.{length, drop, replicate}
 use lib.Dec.{eqb, ltb}
 use borrow.Author.Tests.{ltb-true, lt-ltb, le-ltb, eq-eqb, ne-eqb}
 use Rattle.table_kinds.specs.declared.Kind.{Kind}
-use Rattle.table_kinds.specs.declared.Kind.the-variants.{Letter, Title, Objects, Attributes, Marks}
-use Rattle.table_bytes.specs.Bytes.{isCount, everywhere}
-use Rattle.table_walk.specs.declared.Walk.{Walk}
-use Rattle.table_walk.specs.declared.Walk.the-variants.{Failed, At}
+use Rattle.line_walk.specs.declared.Walk.{Walk}
+use Rattle.line_walk.specs.declared.Walk.the-variants.{Failed, At}
 use Rattle.session.specs.Refusals.{refusal}
 use Rattle.table_lines.specs.Lines.{lineOf, bytesAt, after}
 use Rattle.table_lines.specs.Lines.Laws.{bytes-length, after-inside, after-moves}
-use Rattle.table_kinds.specs.Kinds.{fault, absent}
-use Rattle.table_walk.specs.Walk.{lineFault, walk, walkOn, rest, placeOf}
+use Rattle.line_walk.specs.Walk.{lineFault, walk}
+use Rattle.table_walk.specs.Walk.{walkOn, rest, placeOf}
 
--- computed: the first failing line decides, with its own number and where it begins; a missing line is at the file's end; the last line
--- may lack its line feed; behind the last line needed, the first line that is not empty
-cases : (walk (Letter ∷ Title ∷ Objects ∷ Attributes ∷ []) (66 ∷ 10 ∷ 10 ∷ 88 ∷ 10 ∷ 88 ∷ []) 0 ≡ Failed (refusal 23 3))
-    × (walk (Letter ∷ Title ∷ []) (66 ∷ 10 ∷ []) 0 ≡ Failed (refusal 25 2))
-    × (walk (Marks 1 ∷ Marks 1 ∷ []) (88 ∷ 10 ∷ 46 ∷ []) 0 ≡ At 3)
-    × (rest 4 (13 ∷ 10 ∷ 10 ∷ []) 0 ≡ At 3)
-    × (rest 4 (10 ∷ 10 ∷ 88 ∷ []) 0 ≡ Failed (refusal 28 2))
-unfolding walk rest lineFault fault isCount everywhere lineOf
-cases = (refl, refl, refl, refl, refl)
+-- computed: behind the last line needed, the first line that is not empty
+cases : (rest 4 (13 ∷ 10 ∷ 10 ∷ []) 0 ≡ At 3) × (rest 4 (10 ∷ 10 ∷ 88 ∷ []) 0 ≡ Failed (refusal 28 2))
+unfolding rest lineOf
+cases = (refl, refl)
 
 module _ (file : List ℕ) where
-  module _ (k : Kind) (at : ℕ) where
-    -- a line that is there, and one that is missing
-    pub fault-there : at < length file → lineFault k file at ≡ fault k (bytesAt file at)
-    unfolding lineFault
-    fault-there h = rw (lineFault, lt-ltb at (length file) h)
-
-    pub fault-missing : length file ≤ at → lineFault k file at ≡ absent k
-    unfolding lineFault
-    fault-missing h = rw (lineFault, le-ltb at (length file) h)
-
-    module _ (ks : List Kind) where
-      -- the first line is fine, or it is refused
-      pub walk-passed : lineFault k file at ≡ 0 → walk (k ∷ ks) file at ≡ walk ks file (after file at)
-      unfolding walk
-      walk-passed e = rw (walk, eq-eqb (lineFault k file at) 0 e)
-
-      pub walk-failed : (lineFault k file at ≡ 0 → ⊥) → walk (k ∷ ks) file at ≡ Failed (refusal (lineFault k file at) at)
-      unfolding walk
-      walk-failed e = rw (walk, ne-eqb (lineFault k file at) 0 e)
-
   pub walk-append : (ks ls : List Kind) (at : ℕ) → walk (ks ++ ls) file at ≡ walkOn (walk ks file at) ls file
   unfolding walk
   walk-append [] ls at = refl

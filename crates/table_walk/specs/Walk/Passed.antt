@@ -10,16 +10,19 @@ use lib.Dec.{eqb, ltb}
 use borrow.Author.Tests.{ltb-true, eqb-true, eqb-false, ltb-false}
 use Rattle.table_kinds.specs.declared.Kind.{Kind}
 use Rattle.table_kinds.specs.declared.Kind.the-variants.{Marks}
-use Rattle.table_walk.specs.declared.Walk.{Walk}
-use Rattle.table_walk.specs.declared.Walk.the-variants.{Failed, At}
+use Rattle.line_walk.specs.declared.Walk.{Walk}
+use Rattle.line_walk.specs.declared.Walk.the-variants.{Failed, At}
 use Rattle.table_lines.specs.Lines.{lineOf, bytesAt, after}
 use Rattle.table_lines.specs.Lines.Laws.{bytes-length, bytes-inside, after-end}
-use Rattle.table_kinds.specs.Kinds.{fault}
-use Rattle.table_walk.specs.Walk.{lineFault, walk, walkOn, placeOf, Passes}
+use Rattle.line_faults.specs.Faults.{fault}
+use Rattle.line_walk.specs.Walk.{lineFault, walk}
+use Rattle.table_walk.specs.Walk.{walkOn, placeOf, Passes}
 use native.Mathlib.Nat.{add-zero}
 use lib.Seq.{take-all, drop-drop}
-use Rattle.table_kinds.specs.Kinds.Laws.{absent-some, unless-fine}
-use Rattle.table_walk.specs.Walk.Laws.{fault-there, fault-missing, walk-passed, walk-failed, walk-append}
+use Rattle.line_tests.specs.Tests.Laws.{unless-fine}
+use Rattle.table_kinds.specs.Kinds.Laws.{absent-some}
+use Rattle.line_walk.specs.Walk.Laws.{fault-there, fault-missing, walk-passed, walk-failed}
+use Rattle.table_walk.specs.Walk.Laws.{walk-append}
 
 module _ (file : List ℕ) where
   -- a line without a fault is there

@@ -9,9 +9,11 @@ use Rattle.reach.specs.Reach.{cut, narrow, reach}
 use Rattle.machine.specs.Checks.{standing, questionStands, firstFailing, badLength, strange, outsideM, sessionChecks, yesChecks, noChecks}
 use Rattle.machine.specs.Machine.{performStep, performed, checksOf, perform, opening}
 use Rattle.table_lines.specs.Lines.{lineOf}
-use Rattle.table_bytes.specs.Bytes.{everywhere, decimalFrom, isCount, countOf}
-use Rattle.table_kinds.specs.Kinds.{fault}
-use Rattle.table_walk.specs.Walk.{lineFault, walk, rest}
+use Rattle.line_bytes.specs.Everywhere.{everywhere}
+use Rattle.table_counts.specs.Counts.{decimalFrom, isCount, countOf}
+use Rattle.line_faults.specs.Faults.{fault}
+use Rattle.line_walk.specs.Walk.{lineFault, walk}
+use Rattle.table_walk.specs.Walk.{rest}
 use Rattle.table_layout.specs.Layout.{layoutOf, openedOf}
 use Rattle.table_rows.specs.Rows.{wordOf, rowsFrom}
 use Rattle.complete_tables.specs.Complete.{completeFrom}
