@@ -10,7 +10,8 @@ use borrow.Author.Tests.{ltb-false}
 use Rattle.implication.specs.Pairs.Laws.{length-pairs}
 use Rattle.implication.specs.Closure.{implication}
 use Rattle.context.specs.Objects.{Object, object, objectsOf}
-use Rattle.machine.specs.Checks.{State, mostAttributes}
+use Rattle.session.specs.Limits.{mostAttributes}
+use Rattle.machine.specs.Checks.{State}
 use Rattle.machine.specs.Checks.Laws.{or-false}
 use Rattle.text.specs.Page.{Page, page, text}
 use Rattle.text.specs.Page.Laws.{text-append, text-inside, text-length}

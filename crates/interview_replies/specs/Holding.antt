@@ -7,7 +7,8 @@ use Prim.Native.Nat.{ℕ, _≤_}
 use denote.Ref.{now}
 use Rattle.implication.specs.Closure.{implication}
 use Rattle.context.specs.Objects.{Object}
-use Rattle.machine.specs.Checks.{State, mostAttributes, question}
+use Rattle.session.specs.Limits.{mostAttributes}
+use Rattle.machine.specs.Checks.{State, question}
 use Rattle.machine.specs.Calls.{stateOf, Words}
 use Rattle.text.specs.Page.{Page, page, text, Buffer}
 use Rattle.transcript.specs.Output.{Beat, more, last}

@@ -4,7 +4,7 @@ use mathlib.Core.List.{List}
 use Prim.Native.Nat.{ℕ}
 use lib.ListN.{length}
 use lib.Dec.{eqb, leb}
-use Rattle.machine.specs.Checks.{mostAttributes, mostObjects}
+use Rattle.session.specs.Limits.{mostAttributes, mostObjects}
 use Rattle.line_tests.specs.Tests.{mostNameBytes, refuseUnless, countFault, isLetter, isName, isMarks}
 use Rattle.table_kinds.specs.declared.Kind.{Kind}
 use Rattle.table_kinds.specs.declared.Kind.the-variants.{Letter, Title, Objects, Attributes, Blank, Name, Marks}

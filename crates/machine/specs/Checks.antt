@@ -3,11 +3,12 @@
 use mathlib.Core.Bool.{Bool, true, false, not, _||_}
 use mathlib.Core.List.{List, [], _∷_, _++_}
 use mathlib.Core.Option.{Option, none, some}
-use Prim.Native.Nat.{ℕ, _*_, _/_, _%_}
+use Prim.Native.Nat.{ℕ, _/_}
 use lib.ListN.{length}
 use lib.Dec.{eqb, ltb, leb}
 use Rattle.session.specs.declared.Refusal.{Refusal}
 use Rattle.session.specs.Refusals.{refusal}
+use Rattle.session.specs.Limits.{mostAttributes, mostObjects, mostImplications, badLength}
 use Rattle.theory.specs.Implications.{Implication}
 use Rattle.attribute_set.specs.Sets.{inside, full, without}
 use Rattle.implication.specs.Closure.{implication, closure}
@@ -15,16 +16,6 @@ use Rattle.context.specs.Places.{lowest, anywhere}
 use Rattle.context.specs.Objects.{Object, refutes, markedTwice, contradicts}
 use Rattle.reach.specs.Reach.{reach}
 pub mod Laws
-
--- the limits of a session: 64 attributes (01: properties), 512 objects (rows), 256 implications (rules)
-abbrev pub mostAttributes : ℕ
-mostAttributes = 64
-
-abbrev pub mostObjects : ℕ
-mostObjects = 512
-
-abbrev pub mostImplications : ℕ
-mostImplications = 256
 
 -- the lengths of the lent slices, in words: two to an object, two to an implication
 pub record Lent : Type 0 where
@@ -90,10 +81,6 @@ firstFailing [] = none
 firstFailing (c ∷ cs) = elim (c .fails) [ true ↦ some (refusal (c .number) (c .place)) | false ↦ firstFailing cs ]
 
 -- ---- what the checks test
-
--- a lent length is odd or above its limit
-unfoldable pub badLength : ℕ → ℕ → Bool
-badLength most words = not (eqb (words % 2) 0) || ltb (most * 2) words
 
 -- one of two sets has an attribute outside m
 unfoldable pub strange : ℕ → ℕ → ℕ → Bool

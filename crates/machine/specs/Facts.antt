@@ -10,7 +10,8 @@ use Rattle.attribute_set.specs.Sets.{Sub, Apart, full}
 use Rattle.attribute_set.specs.Words.{words}
 use Rattle.implication.specs.Closure.{closure}
 use Rattle.context.specs.Objects.{Object, refutes}
-use Rattle.machine.specs.Checks.{mostAttributes, mostObjects, mostImplications, State, force, question, withQuestion}
+use Rattle.session.specs.Limits.{mostAttributes, mostObjects, mostImplications}
+use Rattle.machine.specs.Checks.{State, force, question, withQuestion}
 use Rattle.machine.specs.Checks.Laws.{InM, Stands}
 pub mod Laws
 pub mod Kept

@@ -6,7 +6,7 @@ use lib.ListN.{length, drop}
 use lib.Dec.{ltb}
 use Rattle.session.specs.Refusals.{refusal}
 use Rattle.context.specs.Objects.{Object}
-use Rattle.machine.specs.Checks.{mostObjects, badLength}
+use Rattle.session.specs.Limits.{mostObjects, badLength}
 use Rattle.table_layout.specs.Layout.{openedOf}
 use Rattle.table_layout.specs.declared.Layout.{Layout}
 use Rattle.table_layout.specs.declared.Opened.{Opened}

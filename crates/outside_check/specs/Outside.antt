@@ -5,7 +5,8 @@ use mathlib.Core.List.{[], _∷_}
 use Prim.Native.Nat.{ℕ, _/_, _≤_}
 use lib.ListN.{length}
 use Rattle.theory.specs.Implications.{Implication}
-use Rattle.machine.specs.Checks.{mostAttributes, State, outsideM}
+use Rattle.session.specs.Limits.{mostAttributes}
+use Rattle.machine.specs.Checks.{State, outsideM}
 pub mod Laws
 
 -- what checks 1 and 3 say of a state: no more attributes than a session has, and no more rows and rules than places

@@ -6,7 +6,8 @@ use Prim.Native.Nat.{ℕ, _≤_}
 use lib.ListN.{drop}
 use Rattle.theory.specs.Implications.{Implication}
 use Rattle.context.specs.Objects.{Object, markedTwice}
-use Rattle.machine.specs.Checks.{mostAttributes, State, firstFailing, strangeObject, question, noChecks}
+use Rattle.session.specs.Limits.{mostAttributes}
+use Rattle.machine.specs.Checks.{State, firstFailing, strangeObject, question, noChecks}
 use Rattle.size_checks.specs.declared.Verdict.{Verdict}
 use Rattle.size_checks.specs.Verdicts.{verdictOf}
 

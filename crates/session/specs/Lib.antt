@@ -1,3 +1,4 @@
 pub mod Choice
+pub mod Limits
 pub mod Records
 pub mod Refusals

@@ -3,7 +3,7 @@ ghost use mathlib.Core.Path.{_≡_};
 ghost use mathlib.Core.Bool.{_||_};
 ghost use Prim.Native.Nat.{_/_};
 ghost use lib.Dec.{eqb, ltb};
-ghost use Rattle.machine.specs.Checks.{mostAttributes, mostObjects, mostImplications, badLength};
+ghost use Rattle.session.specs.Limits.{mostAttributes, mostObjects, mostImplications, badLength};
 
 // A lent length is odd, or above its limit.
 fn bad_length(words: usize, most: usize) -> bool

@@ -6,7 +6,8 @@ use denote.Ref.{now}
 use lib.ListN.{length}
 use Rattle.context.specs.Objects.{objectsOf}
 use Rattle.context.specs.Tables.{Table}
-use Rattle.machine.specs.Checks.{Lent, mostObjects, mostImplications}
+use Rattle.session.specs.Limits.{mostObjects, mostImplications}
+use Rattle.machine.specs.Checks.{Lent}
 use Rattle.machine.specs.Calls.{Words}
 use Rattle.table_layout.specs.Layout.{openedOf}
 use Rattle.complete_tables.specs.Complete.{completeOf}

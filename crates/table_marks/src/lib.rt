@@ -3,7 +3,7 @@ ghost use mathlib.Core.Path.{_≡_};
 ghost use Prim.Native.Nat.{_*_, _≤_};
 ghost use mathlib.Core.List.{_++_};
 ghost use lib.ListN.{length, drop, replicate};
-ghost use Rattle.machine.specs.Checks.{mostAttributes, mostObjects, badLength};
+ghost use Rattle.session.specs.Limits.{mostAttributes, mostObjects, badLength};
 ghost use Rattle.table_kinds.specs.declared.Kind.the-variants.{Marks};
 ghost use Rattle.table_layout.specs.declared.Layout.{Layout as LayoutT};
 ghost use Rattle.table_layout.specs.declared.Opened.the-variants.{Found};

@@ -5,7 +5,7 @@ use denote.Ref.{now}
 use lib.ListN.{length}
 use Rattle.implication.specs.Closure.{implication}
 use Rattle.context.specs.Objects.{Object, objectsOf}
-use Rattle.machine.specs.Checks.{mostAttributes}
+use Rattle.session.specs.Limits.{mostAttributes}
 use Rattle.machine.specs.Calls.{Words}
 use Rattle.text.specs.Page.{Buffer}
 use Rattle.transcript.specs.Core.{coreReply}

@@ -3,7 +3,7 @@ ghost use mathlib.Core.Path.{_≡_};
 ghost use Prim.Native.Nat.{_≤_};
 ghost use lib.ListN.{length, take};
 ghost use Rattle.context.specs.Objects.{object};
-ghost use Rattle.machine.specs.Checks.{mostAttributes};
+ghost use Rattle.session.specs.Limits.{mostAttributes};
 ghost use Rattle.table_bytes.specs.Bytes.{isYes, isNo};
 ghost use Rattle.table_rows.specs.Rows.{bitOf, rowOf};
 

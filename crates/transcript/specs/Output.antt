@@ -8,7 +8,8 @@ use lib.ListN.{length, getD}
 use lib.Dec.{ltb}
 use Rattle.theory.specs.Implications.{Implication}
 use Rattle.context.specs.Objects.{Object, object, firstRefuting}
-use Rattle.machine.specs.Checks.{Lent, State, mostObjects, mostImplications}
+use Rattle.session.specs.Limits.{mostObjects, mostImplications}
+use Rattle.machine.specs.Checks.{Lent, State}
 use Rattle.machine.specs.Machine.{step, accept, reject, Answer, finished, moved, asked, taken, followed, refuted, unrefuted, refused, perform, opened, rejected, Opening, opening}
 use Rattle.table_layout.specs.Layout.{mostBytes, openedOf}
 use Rattle.table_rows.specs.Rows.{rowsFrom}

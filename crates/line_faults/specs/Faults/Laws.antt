@@ -10,7 +10,7 @@ use Rattle.table_kinds.specs.declared.Kind.the-variants.{Letter, Title, Objects
 use Rattle.line_faults.specs.Faults.{fault}
 use Rattle.line_tests.specs.Tests.Laws.{unless-fine, count-fine}
 use borrow.Author.Tests.{eqb-true}
-use Rattle.machine.specs.Checks.{mostAttributes, mostObjects}
+use Rattle.session.specs.Limits.{mostAttributes, mostObjects}
 use Rattle.table_bytes.specs.Bytes.{isMark}
 use Rattle.line_bytes.specs.Everywhere.{everywhere}
 use Rattle.table_counts.specs.Counts.{isCount, countOf, decimalFrom}

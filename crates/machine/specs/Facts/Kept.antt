@@ -25,7 +25,8 @@ use Rattle.context.specs.Objects.{Object, firstRefuting}
 use Rattle.context.specs.Objects.Laws.{contradicts-apart}
 use Rattle.session.specs.declared.Refusal.{Refusal}
 use Rattle.session.specs.Refusals.{refusal}
-use Rattle.machine.specs.Checks.{mostAttributes, mostObjects, mostImplications, Lent, State, Check, firstFailing, strangeObject, strangeImplication, outsideM, sessionChecks, yesChecks, noChecks, force, question}
+use Rattle.session.specs.Limits.{mostAttributes, mostObjects, mostImplications}
+use Rattle.machine.specs.Checks.{Lent, State, Check, firstFailing, strangeObject, strangeImplication, outsideM, sessionChecks, yesChecks, noChecks, force, question}
 use Rattle.machine.specs.Checks.Laws.{or-false, passed, none-failing, failing-here, failing-later, failing-append, passed-append, InM, familiar-implication, Stands}
 use Rattle.machine.specs.Machine.{Call, step, accept, reject, follow, refute, Answer, finished, moved, asked, taken, followed, refuted, unrefuted, refused, refutedAt, afterYes, afterNo, performStep, performed, checksOf, perform, run, opening, opened, openingState}
 use Rattle.machine.specs.Machine.Laws.{perform-cases, perform-accepted, step-cases, opened-is, finished-full}

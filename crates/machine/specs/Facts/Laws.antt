@@ -21,7 +21,8 @@ use Rattle.context.specs.Places.Laws.{anywhere-false, all-anywhere}
 use Rattle.context.specs.Objects.{Object}
 use Rattle.context.specs.Objects.Laws.{marked-apart, apart-marked, contradicts-apart, apart-contradicts}
 use Rattle.session.specs.declared.Refusal.{Refusal}
-use Rattle.machine.specs.Checks.{mostObjects, mostImplications, State, firstFailing, badLength, strange, strangeObject, strangeImplication, outsideM, sessionChecks, yesChecks, noChecks, force, questionStands, withQuestion, whole, tight, open-question}
+use Rattle.session.specs.Limits.{mostObjects, mostImplications, badLength}
+use Rattle.machine.specs.Checks.{State, firstFailing, strange, strangeObject, strangeImplication, outsideM, sessionChecks, yesChecks, noChecks, force, questionStands, withQuestion, whole, tight, open-question}
 use Rattle.machine.specs.Checks.Laws.{or-false, passed, none-failing, failing-append, passed-append, InM, valid, familiar-object, familiar-implication, standing-cases, Stands, stands}
 use Rattle.machine.specs.Machine.{Call, accept, reject, taken, refused, performed, checksOf, perform}
 use Rattle.machine.specs.Machine.Laws.{perform-cases, perform-accepted}

@@ -19,7 +19,7 @@ use Rattle.line_walk.specs.Walk.{lineFault, walk}
 use Rattle.table_walk.specs.Walk.{rest}
 use native.Mathlib.Nat.{add-zero}
 use Rattle.table_layout.specs.declared.Layout.{Layout}
-use Rattle.machine.specs.Checks.{mostObjects, badLength}
+use Rattle.session.specs.Limits.{mostObjects, badLength}
 use Rattle.table_layout.specs.declared.Opened.{Opened}
 use Rattle.found_layout.specs.Found.{foundIn, finds, openedAs}
 use Rattle.implication.specs.Pairs.{pairs}

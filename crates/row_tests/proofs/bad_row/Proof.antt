@@ -6,7 +6,8 @@ use native.Mathlib.Omega.{arith}
 use borrow.Author.Needs.{needs}
 use Rattle.attribute_set.specs.Sets.{full, meets}
 use Rattle.context.specs.Objects.{object, markedTwice}
-use Rattle.machine.specs.Checks.{mostAttributes, strange, strangeObject}
+use Rattle.session.specs.Limits.{mostAttributes}
+use Rattle.machine.specs.Checks.{strange, strangeObject}
 use Rattle.row_tests.proofs.bad_row.Statement.{statement}
 use Rattle.row_tests.proofs.bad_row.Tie as tie
 

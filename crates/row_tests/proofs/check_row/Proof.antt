@@ -13,7 +13,8 @@ use Rattle.attribute_set.specs.Sets.Laws.{and-apart, apart-meets}
 use Rattle.implication.specs.Pairs.Laws.{length-pairs}
 use Rattle.implication.specs.Closure.{implication}
 use Rattle.context.specs.Objects.{Object, object, refutes, contradicts}
-use Rattle.machine.specs.Checks.{mostAttributes, State, Check, firstFailing, force, question, noChecks}
+use Rattle.session.specs.Limits.{mostAttributes}
+use Rattle.machine.specs.Checks.{State, Check, firstFailing, force, question, noChecks}
 use Rattle.machine.specs.Checks.Laws.{failing-nothing, failing-here, failing-later}
 use Rattle.machine.specs.Calls.{stateOf}
 use Rattle.row_tests.proofs.check_row.Statement.{statement}

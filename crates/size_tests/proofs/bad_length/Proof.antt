@@ -5,7 +5,7 @@ use Prim.Native.Nat.{ℕ, _*_, _/_, _%_}
 use native.Mathlib.Omega.{arith}
 use lib.Dec.{ltb}
 use borrow.Author.Tests.{eq-eqb, ne-eqb, ltb-true, ltb-false, lt-ltb, le-ltb}
-use Rattle.machine.specs.Checks.{badLength}
+use Rattle.session.specs.Limits.{badLength}
 use Rattle.size_tests.proofs.bad_length.Statement.{statement}
 use Rattle.size_tests.proofs.bad_length.Tie as tie
 

@@ -4,7 +4,7 @@ use mathlib.Core.List.{List}
 use Prim.Native.Nat.{ℕ, _*_}
 use lib.ListN.{length, take, replicate, length-replicate}
 use lib.Dec.{lit≤}
-use Rattle.machine.specs.Checks.{mostObjects, mostImplications}
+use Rattle.session.specs.Limits.{mostObjects, mostImplications}
 use Rattle.table_interview.specs.Places.{lentOf, placesFor, ReadComplete}
 use Rattle.table_interview.specs.Places.Laws.{table-read, read-holds, words-taken, places-taken}
 use Rattle.table_interview.specs.Run.Laws.{output-written, table-written}

@@ -8,7 +8,7 @@ use lib.Seq.{length-take-le}
 use Rattle.implication.specs.Pairs.{pairs}
 use Rattle.context.specs.Objects.{objectsOf}
 use Rattle.context.specs.Tables.{Table}
-use Rattle.machine.specs.Checks.{mostObjects, mostImplications}
+use Rattle.session.specs.Limits.{mostObjects, mostImplications}
 use Rattle.machine.specs.Machine.{opening}
 use Rattle.machine.specs.Calls.{openingFrom}
 use Rattle.session_opening.specs.Opening.{openingOf}

@@ -17,7 +17,7 @@ use Rattle.table_layout.specs.Layout.{mostBytes, toAttributeNames, toMar
 use Rattle.line_walk.specs.Walk.{walk}
 use Rattle.table_walk.specs.Walk.{rest, thenRest, Passes}
 use Rattle.table_layout.specs.declared.Layout.{Layout}
-use Rattle.machine.specs.Checks.{mostAttributes, mostObjects}
+use Rattle.session.specs.Limits.{mostAttributes, mostObjects}
 use Rattle.table_walk.specs.Walk.Laws.{place-inside}
 use Rattle.table_walk.specs.Walk.Passed.{line-there, passes-cons, passes-append}
 use Rattle.line_faults.specs.Faults.Laws.{objects-fine, attributes-fine}

@@ -1,7 +1,7 @@
 -- The two tests are those of the definition.
 use borrow.Author.Needs.{needs}
 use borrow.Author.Tests.{eq-eqb, ne-eqb}
-use Rattle.machine.specs.Checks.{badLength}
+use Rattle.session.specs.Limits.{badLength}
 use Rattle.table_marks.proofs.bad_length.Statement.{statement}
 use Rattle.table_marks.proofs.bad_length.Tie as tie
 

@@ -6,7 +6,7 @@ use borrow.Author.Needs.{needs}
 use mathlib.Core.List.{List, _++_}
 use lib.ListN.{length, drop, replicate}
 use Rattle.context.specs.Objects.{Object}
-use Rattle.machine.specs.Checks.{mostAttributes}
+use Rattle.session.specs.Limits.{mostAttributes}
 use Rattle.table_kinds.specs.declared.Kind.the-variants.{Marks}
 use Rattle.table_layout.specs.declared.Opened.the-variants.{Refused}
 use Rattle.line_walk.specs.Walk.{walk}

@@ -6,7 +6,7 @@ use borrow.Author.Needs.{needs}
 use lib.ListN.{length, take, drop, length-set, length-drop}
 use lib.Seq.{length-take-le, take-all}
 use Rattle.context.specs.Objects.{object}
-use Rattle.machine.specs.Checks.{mostAttributes}
+use Rattle.session.specs.Limits.{mostAttributes}
 use Rattle.table_lines.specs.Lines.{bytesAt}
 use Rattle.table_rows.specs.Rows.{rowOf}
 use Rattle.table_walk.specs.Walk.Passed.{NextLine}

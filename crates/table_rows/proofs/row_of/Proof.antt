@@ -3,7 +3,7 @@ use mathlib.Core.Path.{sym, ap, _∙_}
 use native.Mathlib.Omega.{arith}
 use borrow.Author.Needs.{needs}
 use lib.Seq.{length-take-le, take-all}
-use Rattle.machine.specs.Checks.{mostAttributes}
+use Rattle.session.specs.Limits.{mostAttributes}
 use Rattle.table_rows.specs.Rows.{rowOf}
 use Rattle.table_rows.proofs.row_of.Statement.{statement}
 use Rattle.table_rows.proofs.row_of.Tie as tie

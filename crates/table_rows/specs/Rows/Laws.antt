@@ -8,7 +8,7 @@ use native.Mathlib.Omega.{arith}
 use lib.ListN.{length, drop, length-drop, getD, drop-of-length-le}
 use Rattle.table_lines.specs.Lines.{lineOf, after}
 use Rattle.context.specs.Objects.{object}
-use Rattle.machine.specs.Checks.{mostAttributes}
+use Rattle.session.specs.Limits.{mostAttributes}
 use native.Mathlib.Nat.{pow-suc, lt-of-lt-of-le}
 use lib.Pow.{pow-mono}
 use Rattle.attribute_set.specs.Sets.{digit}

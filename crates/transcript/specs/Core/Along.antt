@@ -21,7 +21,8 @@ use Rattle.context.specs.Objects.{Object, contradicts}
 use Rattle.context.specs.Objects.Laws.{apart-marked}
 use Rattle.context.specs.Tables.{Table, AgreesObject, AgreesImplication}
 use Rattle.context.specs.Tables.Laws.{no-contradiction}
-use Rattle.machine.specs.Checks.{State, force, badLength, mostAttributes, mostObjects, mostImplications, strange, strangeObject, strangeImplication, outsideM, firstFailing, sessionChecks}
+use Rattle.session.specs.Limits.{badLength, mostAttributes, mostObjects, mostImplications}
+use Rattle.machine.specs.Checks.{State, force, strange, strangeObject, strangeImplication, outsideM, firstFailing, sessionChecks}
 use Rattle.machine.specs.Checks.Laws.{InM, Passed, none-failing}
 use Rattle.machine.specs.Demand3.Invariant.{Reached, current-in}
 

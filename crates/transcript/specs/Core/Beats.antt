@@ -24,7 +24,8 @@ use Rattle.context.specs.Objects.Laws.{has-written, lacks-written, spares, apar
 use Rattle.reach.specs.Reach.Laws.{reach-apart}
 use Rattle.context.specs.Tables.{AgreesImplication}
 use Rattle.context.specs.Tables.Laws.{no-contradiction}
-use Rattle.machine.specs.Checks.{State, check, force, reachOf, question, withQuestion, mostAttributes, firstFailing, sessionChecks, yesChecks, noChecks}
+use Rattle.session.specs.Limits.{mostAttributes}
+use Rattle.machine.specs.Checks.{State, check, force, reachOf, question, withQuestion, firstFailing, sessionChecks, yesChecks, noChecks}
 use Rattle.machine.specs.Checks.Laws.{or-false, Stands, passed, failing-nothing, failing-here, failing-later, failing-append}
 use Rattle.machine.specs.Machine.{Call, step, accept, reject, taken, turn, afterMove, afterYes, afterNo, performed, checksOf, perform}
 use Rattle.machine.specs.Machine.Laws.{perform-refused, perform-accepted, step-cases}

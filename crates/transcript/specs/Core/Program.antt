@@ -16,7 +16,8 @@ use Rattle.attribute_set.specs.Sets.{inside, full}
 use Rattle.attribute_set.specs.Sets.Laws.{sub-inside, none-sub}
 use Rattle.implication.specs.Closure.{close, closure}
 use Rattle.context.specs.Places.{lowest, anywhere}
-use Rattle.machine.specs.Checks.{Lent, State, mostAttributes, badLength, outsideM, sessionChecks}
+use Rattle.session.specs.Limits.{mostAttributes, badLength}
+use Rattle.machine.specs.Checks.{Lent, State, outsideM, sessionChecks}
 use Rattle.machine.specs.Checks.Laws.{Passed, none-failing}
 use Rattle.machine.specs.Machine.{Opening, opening, opened, rejected, openingState}
 use Rattle.table_layout.specs.Layout.{openedOf}

@@ -12,7 +12,8 @@ use Rattle.theory.specs.Implications.{Implication}
 use Rattle.attribute_set.specs.Sets.{full}
 use Rattle.context.specs.Objects.{Object}
 use Rattle.session.specs.declared.Refusal.{Refusal}
-use Rattle.machine.specs.Checks.{State, badLength, mostAttributes, mostObjects, mostImplications, reachOf, question}
+use Rattle.session.specs.Limits.{badLength, mostAttributes, mostObjects, mostImplications}
+use Rattle.machine.specs.Checks.{State, reachOf, question}
 use Rattle.machine.specs.Checks.Laws.{or-false}
 use Rattle.machine.specs.Machine.{afterMove, afterYes, afterNo}
 use Rattle.text.specs.Text.{digits, numberText, setText}
