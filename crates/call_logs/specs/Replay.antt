@@ -4,9 +4,9 @@ use mathlib.Core.Path.{_≡_}
 use mathlib.Core.Bool.{Bool, not}
 use mathlib.Core.List.{List, [], _∷_, _++_}
 use mathlib.Core.Option.{Option, none, some}
-use Prim.Native.Nat.{ℕ, zero, suc, _*_, _/_, _≤_, _<_}
+use Prim.Native.Nat.{ℕ, zero, suc, _+_, _*_, _/_, _≤_, _<_}
 use denote.Ref.{now}
-use lib.ListN.{length, getD, drop}
+use lib.ListN.{length, getD, drop, set}
 use Rattle.machine.specs.Checks.{State}
 use Rattle.machine.specs.Machine.{Call, perform, run}
 use Rattle.machine.specs.Calls.{stateOf, Words, Record}
@@ -44,6 +44,10 @@ known (some c ∷ cs) = c ∷ known cs
 unfoldable pub answersOf : State → List (Option Call) → List ℕ
 answersOf s [] = []
 answersOf s (c ∷ cs) = replayCode s c .code ∷ replayCode s c .first ∷ replayCode s c .second ∷ answersOf (replayAfter s c) cs
+
+-- the words with an answer stored at i
+abbrev pub stored : List ℕ → ℕ → Coded → List ℕ
+stored ws i x = set (set (set ws (i * 3) (x .code)) (i * 3 + 1) (x .first)) (i * 3 + 2) (x .second)
 
 -- ---- what a replay leaves
 

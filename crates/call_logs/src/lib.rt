@@ -1,6 +1,8 @@
 // Logs of calls: each call made through the call of its kind, its answer in three words written down.
 ghost use mathlib.Core.Path.{_≡_};
-ghost use Rattle.call_logs.specs.Replay.{codeOfLog, Replays, ReplaysCoded};
+ghost use Prim.Native.Nat.{_+_, _*_, _≤_};
+ghost use lib.ListN.{length};
+ghost use Rattle.call_logs.specs.Replay.{stored, codeOfLog, Replays, ReplaysCoded};
 
 pub enum Log {
     Replayed,
@@ -11,6 +13,17 @@ pub enum Log {
 pub struct Replayed {
     pub log: Log,
     pub session: session::Session,
+}
+
+// The three words of an answer at its place.
+fn write_answer(answers: &mut [u64], i: usize, answer: answer_words::Answer)
+    requires { ⌜ (i + 1) * 3 ≤ length (now answers) ⌝ }
+    ensures { λ _. ⌜ now (answers .exit) ≡ stored (now (answers .entry)) i answer ⌝ }
+{
+    let at = i * 3;
+    answers[at] = answer.code;
+    answers[at + 1] = answer.first;
+    answers[at + 2] = answer.second;
 }
 
 // Makes each call of a log and writes down its answer; where the answers have no room for all, nothing is done.
@@ -34,19 +47,18 @@ pub fn replay(
     let mut current = session;
     let mut i = 0;
     while i < count {
+        let at = i * 3;
         let turn = logged_calls::replay_one(
             current,
             rows,
             list,
             background,
-            calls[i * 3],
-            calls[i * 3 + 1],
-            calls[i * 3 + 2],
+            calls[at],
+            calls[at + 1],
+            calls[at + 2],
         );
         let answer = turn.answer;
-        answers[i * 3] = answer.code;
-        answers[i * 3 + 1] = answer.first;
-        answers[i * 3 + 2] = answer.second;
+        write_answer(answers, i, answer);
         current = turn.session;
         i += 1;
     }

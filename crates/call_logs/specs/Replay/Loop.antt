@@ -1,7 +1,7 @@
 -- The loop that replays a log. Where i calls are made, the machine's run and answers from the present state through the calls
 -- left are those of the whole log, the answers so far stand first, and every other lent word is as it was. This holds at the
 -- start, each call keeps it, and when no call is left it says what a replay is to leave.
-use mathlib.Core.Path.{_≡_, refl, sym, ap, _∙_}
+use mathlib.Core.Path.{_≡_, refl, sym, ap, _∙_, subst}
 use mathlib.Core.List.{List, [], _∷_, _++_, append-assoc, append-nil}
 use mathlib.Core.Option.{Option, none, some}
 use Prim.Native.Nat.{ℕ, suc, _+_, _-_, _*_, _/_, _≤_, _<_}
@@ -14,7 +14,7 @@ use Rattle.machine.specs.Machine.{Call, run}
 use Rattle.machine.specs.Calls.{stateOf}
 use Rattle.answer_words.specs.declared.Answer.{Answer as Coded}
 use Rattle.logged_calls.specs.Kinds.{callOf, ReplaysFrom}
-use Rattle.call_logs.specs.Replay.{callsOf, replayAfter, known, answersOf, PastKept, LogWords, logWords, logOf, AllMade}
+use Rattle.call_logs.specs.Replay.{callsOf, stored, replayAfter, known, answersOf, PastKept, LogWords, logWords, logOf, AllMade}
 use Rattle.call_logs.specs.Replay.Laws.{replayed}
 use Rattle.session.specs.declared.Session.{Session}
 
@@ -122,13 +122,13 @@ module _ (background calls : List ℕ) (s : Session) (before : LogWords) where
   }
 
   -- the call at i is made, and its answer is stored
-  pub going-on : (s′ : Session) (after : LogWords) (i : ℕ) → Going background calls s before s′ after i → i < length calls / 3 → (i + 1) * 3 ≤ length (before .answers)
+  going-stored : (s′ : Session) (after : LogWords) (i : ℕ) → Going background calls s before s′ after i → i < length calls / 3 → (i + 1) * 3 ≤ length (before .answers)
       → (e : Coded) (s″ : Session) (rows list : List ℕ)
       → ReplaysFrom (callAt calls i) s′ (after .rows) (after .list) background e s″ rows list
       → Going background calls s before s″
-      (logWords rows list (set (set (set (after .answers) (i * 3) (e .code)) (i * 3 + 1) (e .first)) (i * 3 + 2) (e .second))) (i + 1)
+      (logWords rows list (stored (after .answers) i e)) (i + 1)
   unfolding answersOf
-  going-on s′ after i g h fits e s″ rows list m =
+  going-stored s′ after i g h fits e s″ rows list m =
       let one = replayed s′ s″ background (after .rows) (after .list) rows list (callAt calls i) e m in
       let answered = one .0 in
       let stands = one .1 .0 in
@@ -153,6 +153,13 @@ module _ (background calls : List ℕ) (s : Session) (before : LogWords) where
         rows = past-trans (g .rows) (one .1 .1 .0);
         list = past-trans (g .list) (one .1 .1 .1);
       }
+
+  pub going-on : (s′ : Session) (after : LogWords) (i : ℕ) → Going background calls s before s′ after i → i < length calls / 3 → (i + 1) * 3 ≤ length (before .answers)
+      → (e : Coded) (s″ : Session) (rows list answers : List ℕ)
+      → ReplaysFrom (callAt calls i) s′ (after .rows) (after .list) background e s″ rows list → answers ≡ stored (after .answers) i e
+      → Going background calls s before s″ (logWords rows list answers) (i + 1)
+  going-on s′ after i g h fits e s″ rows list answers m is =
+      subst (λ ws. Going background calls s before s″ (logWords rows list ws) (i + 1)) (sym is) (going-stored s′ after i g h fits e s″ rows list m)
 
   -- no call is left
   pub going-end : (s′ : Session) (after : LogWords) (i : ℕ) → Going background calls s before s′ after i → length calls / 3 ≤ i
