@@ -14,7 +14,7 @@ use Rattle.table_layout.specs.declared.Layout.{Layout}
 use Rattle.table_layout.specs.declared.Opened.{Opened}
 use Rattle.table_layout.specs.declared.Opened.the-variants.{Found, Refused}
 use Rattle.mark_reading.specs.Marks.{readingAs, rowWords}
-use Rattle.table_names.specs.declared.Span.{Span}
+use Rattle.name_spans.specs.declared.Span.{Span}
 pub mod Laws
 
 abbrev pub codeOfOpened : Opened → Coded

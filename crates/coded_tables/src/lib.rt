@@ -2,7 +2,7 @@
 ghost use mathlib.Core.Path.{_≡_};
 ghost use Rattle.table_layout.specs.Layout.{openedOf};
 ghost use Rattle.complete_tables.specs.Complete.{openedComplete};
-ghost use Rattle.table_names.specs.Names.{objectSpan, attributeSpan};
+ghost use Rattle.name_spans.specs.Spans.{objectSpan, attributeSpan};
 ghost use Rattle.coded_tables.specs.Tables.{FindsTable, ReadsMarks, codeOfSpan};
 
 // The answer to a call, the layout after it, and whether it differs from the one before.
@@ -60,7 +60,11 @@ pub fn read_marks(
     }
 }
 
+<<<<<<< HEAD
 fn answer_of_span(span: table_names::Span) -> answer_words::Answer
+=======
+fn answer_of_span(span: name_spans::Span) -> coded_calls::Answer
+>>>>>>> 62f6a33920724bc70d88f2eb8718e492a07559c6
     ensures { λ r. ⌜ r ≡ codeOfSpan span ⌝ }
 {
     if span.size == 0 {
@@ -77,7 +81,7 @@ fn answer_of_span(span: table_names::Span) -> answer_words::Answer
 pub fn object_name(layout: table_layout::Layout, file: &[u8], number: usize) -> answer_words::Answer
     ensures { λ r. ⌜ r ≡ codeOfSpan (objectSpan (now (file .entry)) layout number) ⌝ }
 {
-    answer_of_span(table_names::object_span(file, layout, number))
+    answer_of_span(name_spans::object_span(file, layout, number))
 }
 
 // Where the name of an attribute stands, as for objects.
@@ -88,5 +92,5 @@ pub fn attribute_name(
 ) -> answer_words::Answer
     ensures { λ r. ⌜ r ≡ codeOfSpan (attributeSpan (now (file .entry)) layout number) ⌝ }
 {
-    answer_of_span(table_names::attribute_span(file, layout, number))
+    answer_of_span(name_spans::attribute_span(file, layout, number))
 }

@@ -8,7 +8,8 @@ use Rattle.answer_words.specs.declared.Answer.{Answer as Coded}
 use Rattle.table_layout.specs.Layout.{layout, openedOf}
 use Rattle.table_layout.specs.declared.Layout.{Layout}
 use Rattle.table_layout.specs.declared.Opened.{Opened}
-use Rattle.table_names.specs.Names.{objectSpan, attributeSpan, Named}
+use Rattle.name_spans.specs.Spans.{objectSpan, attributeSpan}
+use Rattle.table_names.specs.Names.{Named}
 use Rattle.coded_tables.specs.Tables.{codeOfOpened, layoutAfter}
 use Rattle.opened_table.specs.declared.Table.{Table}
 pub mod Laws

@@ -2,7 +2,7 @@
 ghost use mathlib.Core.Path.{_≡_};
 ghost use Rattle.table_layout.specs.Layout.{openedOf};
 ghost use Rattle.complete_tables.specs.Complete.{openedComplete};
-ghost use Rattle.table_names.specs.Names.{objectSpan, attributeSpan};
+ghost use Rattle.name_spans.specs.Spans.{objectSpan, attributeSpan};
 ghost use Rattle.coded_tables.specs.Tables.{OpensTableOn, ReadsMarks, codeOfSpan};
 
 // Opens a table file: the layout found there, or the given one where it is refused.

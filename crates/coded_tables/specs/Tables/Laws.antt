@@ -9,7 +9,7 @@ use Rattle.answer_words.specs.Codes.{coded}
 use Rattle.table_layout.specs.declared.Layout.{Layout}
 use Rattle.table_layout.specs.declared.Opened.{Opened}
 use Rattle.table_layout.specs.declared.Opened.the-variants.{Found, Refused}
-use Rattle.table_names.specs.declared.Span.{Span}
+use Rattle.name_spans.specs.declared.Span.{Span}
 use Rattle.coded_tables.specs.Tables.{layoutAfter, isFound, OpensTable, FindsTable, codeOfSpan}
 
 module _ (s : Span) where

@@ -17,7 +17,8 @@ use Rattle.found_layout.specs.Found.Laws.{finds-table}
 use Rattle.table_layout.specs.declared.Layout.{Layout}
 use Rattle.table_layout.specs.declared.Opened.{Opened}
 use Rattle.table_layout.specs.declared.Opened.the-variants.{Found, Refused}
-use Rattle.table_names.specs.Names.{objectSpan, attributeSpan, nameRefusal}
+use Rattle.name_spans.specs.Spans.{objectSpan, attributeSpan}
+use Rattle.table_names.specs.Names.{nameRefusal}
 use Rattle.table_names.specs.Names.Laws.{object-refused, attribute-refused}
 use Rattle.opened_table.specs.declared.Table.{Table}
 use Rattle.coded_tables.specs.Tables.{layoutAfter}

@@ -1,14 +1,14 @@
--- Computed cases (`cases`). A name is the bytes of its line (`span-name`), which lie inside the file (`span-inside`, `object-span-inside`,
+-- A name is the bytes of its line (`span-name`), which lie inside the file (`span-inside`, `object-span-inside`,
 -- `attribute-span-inside`). No name is empty, and none has more than 80 bytes (`object-name-some`, `attribute-name-some`). So the refusal
 -- is 3 just for a number past the last and for a layout that reading the file does not find (`object-refused`, `attribute-refused`).
 use mathlib.Core.Path.{_≡_, sym, refl, ap, _∙_}
-use mathlib.Core.Bool.{Bool, true, false, _&&_, and-false, and-eq-true-iff}
-use mathlib.Core.List.{List, [], _∷_}
+use mathlib.Core.Bool.{Bool, true, false, _&&_, and-eq-true-iff}
+use mathlib.Core.List.{List, []}
 use Prim.Native.Nat.{ℕ, zero, suc, _+_, _≤_, _<_}
 use native.Mathlib.Omega.{arith}
 use lib.ListN.{length, take, drop, replicate}
 use lib.Dec.{ltb, leb}
-use borrow.Author.Tests.{ltb-true, leb-true, lt-ltb, le-ltb, ne-eqb}
+use borrow.Author.Tests.{ltb-true, leb-true, ne-eqb}
 use Rattle.table_kinds.specs.declared.Kind.{Kind}
 use Rattle.table_kinds.specs.declared.Kind.the-variants.{Name}
 use Rattle.table_layout.specs.declared.Layout.{Layout}
@@ -26,15 +26,10 @@ use Rattle.found_layout.specs.Found.Laws.{finds-table}
 use Rattle.line_tests.specs.Tests.Laws.{unless-fine}
 use Rattle.table_walk.specs.Walk.Passed.{line-there, passes-append, passes-cons}
 use Rattle.table_layout.specs.Layout.Passed.{opened-table, starts-inside}
-use Rattle.table_names.specs.declared.Span.{Span}
-use Rattle.table_names.specs.Names.{skipped, span, bytesOf, spanFrom, nameFrom, objectSpan, attributeSpan, objectName, attributeName, nameRefusal}
-
--- computed, of the names `a` and `bc`: number 1; number 2 and a layout that is not found have none
-cases : (spanFrom true 2 0 1 (97 ∷ 10 ∷ 98 ∷ 99 ∷ []) ≡ span 2 2)
-    × (spanFrom true 2 0 2 (97 ∷ 10 ∷ 98 ∷ 99 ∷ []) ≡ span 0 0)
-    × (spanFrom false 2 0 1 (97 ∷ 10 ∷ 98 ∷ 99 ∷ []) ≡ span 0 0)
-unfolding skipped lineOf
-cases = (refl, refl, refl)
+use Rattle.name_spans.specs.declared.Span.{Span}
+use Rattle.name_spans.specs.Spans.Laws.{span-there}
+use Rattle.name_spans.specs.Spans.{skipped, span, spanFrom, objectSpan, attributeSpan}
+use Rattle.table_names.specs.Names.{bytesOf, nameFrom, objectName, attributeName, nameRefusal}
 
 -- ---- a name by its number
 
@@ -44,16 +39,6 @@ skipped-inside zero file at h = h
 skipped-inside (suc k) file at h = skipped-inside k file (after file at) (after-inside file at h)
 
 module _ (found : Bool) (count start k : ℕ) (file : List ℕ) where
-  pub span-unfound : found ≡ false → spanFrom found count start k file ≡ span 0 0
-  span-unfound e = rw e
-
-  pub span-past : count ≤ k → spanFrom found count start k file ≡ span 0 0
-  span-past h = rw (spanFrom, le-ltb k count h, and-false found)
-
-  pub span-there : found ≡ true → k < count
-      → spanFrom found count start k file ≡ span (skipped k file start) (lineOf (drop (skipped k file start) file) .size)
-  span-there e h = rw (spanFrom, e, lt-ltb k count h)
-
   -- the bytes there are those of the name's line
   pub span-name : nameFrom found count start k file ≡ elim (found && ltb k count) [ true ↦ bytesAt file (skipped k file start) | false ↦ [] ]
   span-name = go (found && ltb k count)
@@ -68,7 +53,7 @@ module _ (found : Bool) (count start k : ℕ) (file : List ℕ) where
       go false = refl
 
   name-there : found ≡ true → k < count → nameFrom found count start k file ≡ bytesAt file (skipped k file start)
-  name-there e h = ap (bytesOf file) (span-there e h)
+  name-there e h = ap (bytesOf file) (span-there found count start k file e h)
 
   -- and lie inside the file
   pub span-inside : (found ≡ true → start ≤ length file) → spanFrom found count start k file .at + spanFrom found count start k file .size ≤ length file

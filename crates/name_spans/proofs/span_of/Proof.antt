@@ -8,10 +8,10 @@ use borrow.Author.Tests.{not-true, not-false}
 use Rattle.table_lines.specs.declared.Line.{Line}
 use Rattle.table_lines.specs.Lines.{lineOf}
 use Rattle.found_layout.specs.Found.{finds}
-use Rattle.table_names.specs.Names.{span}
-use Rattle.table_names.specs.Names.Laws.{span-unfound, span-past, span-there}
-use Rattle.table_names.proofs.span_of.Statement.{statement}
-use Rattle.table_names.proofs.span_of.Tie as tie
+use Rattle.name_spans.specs.Spans.{span}
+use Rattle.name_spans.specs.Spans.Laws.{span-unfound, span-past, span-there}
+use Rattle.name_spans.proofs.span_of.Statement.{statement}
+use Rattle.name_spans.proofs.span_of.Tie as tie
 
 abbrev start : tie.After-is-found → tie.Start
 start c = c .before .before

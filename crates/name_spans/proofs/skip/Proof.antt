@@ -4,9 +4,9 @@ use Prim.Native.Nat.{suc, _≤_, _+_, _-_}
 use native.Mathlib.Omega.{arith}
 use native.Mathlib.Nat.{sub-zero}
 use borrow.Author.Needs.{needs}
-use Rattle.table_names.specs.Names.{skipped}
-use Rattle.table_names.proofs.skip.Statement.{statement}
-use Rattle.table_names.proofs.skip.Tie as tie
+use Rattle.name_spans.specs.Spans.{skipped}
+use Rattle.name_spans.proofs.skip.Statement.{statement}
+use Rattle.name_spans.proofs.skip.Tie as tie
 
 abbrev Inv-loop : tie.InvT-loop
 Inv-loop file start count at₀ i₀ at i = (i ≤ count) × (skipped (count - i) file at ≡ skipped count file start)
