@@ -60,11 +60,7 @@ pub fn read_marks(
     }
 }
 
-<<<<<<< HEAD
-fn answer_of_span(span: table_names::Span) -> answer_words::Answer
-=======
-fn answer_of_span(span: name_spans::Span) -> coded_calls::Answer
->>>>>>> 62f6a33920724bc70d88f2eb8718e492a07559c6
+fn answer_of_span(span: name_spans::Span) -> answer_words::Answer
     ensures { λ r. ⌜ r ≡ codeOfSpan span ⌝ }
 {
     if span.size == 0 {
