@@ -1,4 +1,5 @@
-// The lines of the program's output that have a rule, each written into a lent buffer from an offset on; the answer is the offset behind it.
+// The lines of the program's output that have a rule, each written into a lent buffer from an offset on; the answer is the offset
+// behind it.
 ghost use mathlib.Core.List.{[], _∷_, _++_};
 ghost use Rattle.implication.specs.Closure.{implication};
 ghost use Rattle.text.specs.Page.{Puts};

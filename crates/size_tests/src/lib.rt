@@ -6,7 +6,7 @@ ghost use lib.Dec.{eqb, ltb};
 ghost use Rattle.session.specs.Limits.{mostAttributes, mostObjects, mostImplications, badLength};
 
 // A lent length is odd, or above its limit.
-fn bad_length(words: usize, most: usize) -> bool
+pub fn bad_length(words: usize, most: usize) -> bool
     ensures { λ r. ⌜ r ≡ badLength most words ⌝ }
 {
     if words % 2 != 0 {

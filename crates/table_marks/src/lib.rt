@@ -3,7 +3,7 @@ ghost use mathlib.Core.Path.{_≡_};
 ghost use Prim.Native.Nat.{_*_, _≤_};
 ghost use mathlib.Core.List.{_++_};
 ghost use lib.ListN.{length, drop, replicate};
-ghost use Rattle.session.specs.Limits.{mostAttributes, mostObjects, badLength};
+ghost use Rattle.session.specs.Limits.{mostAttributes};
 ghost use Rattle.table_kinds.specs.declared.Kind.the-variants.{Marks};
 ghost use Rattle.table_layout.specs.declared.Layout.{Layout as LayoutT};
 ghost use Rattle.table_layout.specs.declared.Opened.the-variants.{Found};
@@ -53,19 +53,12 @@ fn read_opened(file: &[u8], opened: Opened, rows: &mut [u64]) -> Opened
     Opened::Found(layout)
 }
 
-// The length of lent row words is odd, or above its limit.
-fn bad_length(words: usize) -> bool
-    ensures { λ r. ⌜ r ≡ badLength mostObjects words ⌝ }
-{
-    words % 2 != 0 || session::Session::ROWS * 2 < words
-}
-
 // Reads the marks of a table file into lent row words; nothing is written unless everything passed.
 pub fn read_marks(file: &[u8], rows: &mut [u64]) -> Opened
     ensures answer { λ r. ⌜ r ≡ reading (length (now (rows .entry))) (now (file .entry)) ⌝ }
     ensures written { λ r. ⌜ now (rows .exit) ≡ wordsRead (now (file .entry)) (now (rows .entry)) ⌝ }
 {
-    if bad_length(rows.len()) {
+    if size_tests::bad_length(rows.len(), session::Session::ROWS) {
         return Opened::Refused(session::refuse(2, 0));
     }
     let opened = table_layout::open(file);
@@ -77,7 +70,7 @@ pub fn read_marks_of(file: &[u8], layout: Layout, rows: &mut [u64]) -> Opened
     ensures answer { λ r. ⌜ r ≡ readingAs layout (length (now (rows .entry))) (now (file .entry)) ⌝ }
     ensures written { λ r. ⌜ now (rows .exit) ≡ rowWords r (now (file .entry)) (now (rows .entry)) ⌝ }
 {
-    if bad_length(rows.len()) {
+    if size_tests::bad_length(rows.len(), session::Session::ROWS) {
         return Opened::Refused(session::refuse(2, 0));
     }
     let opened = found_layout::open_as(file, layout);
@@ -89,7 +82,7 @@ pub fn read_complete(file: &[u8], rows: &mut [u64]) -> Opened
     ensures answer { λ r. ⌜ r ≡ completeReading (length (now (rows .entry))) (now (file .entry)) ⌝ }
     ensures written { λ r. ⌜ now (rows .exit) ≡ completeWordsRead (now (file .entry)) (now (rows .entry)) ⌝ }
 {
-    if bad_length(rows.len()) {
+    if size_tests::bad_length(rows.len(), session::Session::ROWS) {
         return Opened::Refused(session::refuse(2, 0));
     }
     let opened = complete_tables::open_complete(file);
