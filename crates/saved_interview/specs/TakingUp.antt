@@ -17,9 +17,16 @@ use Rattle.machine.specs.Calls.{stateOf, Words, Record, openingFrom}
 use Rattle.answer_words.specs.declared.Answer.{Answer as Coded}
 use Rattle.answer_words.specs.Codes.{coded, LentAnswer}
 use Rattle.call_logs.specs.Replay.{LogWords, logWords, AllMade}
+use Rattle.call_logs.specs.declared.Log.{Log}
+use Rattle.call_logs.specs.declared.Log.the-variants.{Replayed, Short}
 use Rattle.saved_interview.specs.Demand3Whole.{Interview, opening-state, end-state, script, Demand3Whole, SameLists}
 use Rattle.saved_interview.specs.Trace.{Trace}
 pub mod Theorem
+
+-- the answer to a log, the record that is left, and whether it changed: only where the calls were made
+abbrev pub TurnAfter : Session → Log → Session → Coded → Session → Bool → Type 0
+TurnAfter before Replayed after x left changed = (x ≡ coded 103 0 0) × ((left ≡ after) × (changed ≡ true))
+TurnAfter before Short after x left changed = (x ≡ coded 3 0 0) × ((left ≡ before) × (changed ≡ false))
 
 -- n, rows in use, background words, words of the calls; the record and words before, the answer, and the record and words after
 module _ (n used : ℕ) (background calls : List ℕ) (before : Session) (words : LogWords) (x : Coded) (after : Session) (words′ : LogWords) where

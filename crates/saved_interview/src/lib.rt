@@ -1,5 +1,27 @@
 // A saved interview taken up again: a session is opened, and a log of calls is made on it.
-ghost use Rattle.saved_interview.specs.TakingUp.{TakesUpTo};
+ghost use Rattle.saved_interview.specs.TakingUp.{TurnAfter, TakesUpTo};
+
+// The answer to a log, and the record after it: the one before where the answers had no room.
+fn turn_after(
+    session: session::Session,
+    log: call_logs::Log,
+    after: session::Session,
+) -> coded_calls::Turn
+    ensures { λ r. ⌜ TurnAfter session log after (r .answer) (r .session) (r .changed) ⌝ }
+{
+    match log {
+        call_logs::Log::Replayed => coded_calls::Turn {
+            answer: answer_words::in_words(answer_words::Answer::TAKEN, 0, 0),
+            session: after,
+            changed: true,
+        },
+        call_logs::Log::Short => coded_calls::Turn {
+            answer: answer_words::in_words(answer_words::Answer::NO_ROOM, 0, 0),
+            session,
+            changed: false,
+        },
+    }
+}
 
 // Opens a session and makes each call of a log, with its answer written down. Nothing is done where the opening is refused, and where the
 // answers have no room for all calls.
@@ -29,16 +51,5 @@ pub fn open_and_replay(
     let replayed = call_logs::replay(start, rows, list, background, calls, answers);
     let log = replayed.log;
     let after = replayed.session;
-    match log {
-        call_logs::Log::Replayed => coded_calls::Turn {
-            answer: answer_words::in_words(answer_words::Answer::TAKEN, 0, 0),
-            session: after,
-            changed: true,
-        },
-        call_logs::Log::Short => coded_calls::Turn {
-            answer: answer_words::in_words(answer_words::Answer::NO_ROOM, 0, 0),
-            session,
-            changed: false,
-        },
-    }
+    turn_after(session, log, after)
 }

@@ -1,12 +1,11 @@
 -- A refused opening leaves everything; else what the replay says of its log decides.
 use mathlib.Core.Path.{_≡_, refl, sym, ap, _∙_}
-use mathlib.Core.Logic.{inl, inr}
-use mathlib.Core.Bool.{true≢false}
+use mathlib.Core.Logic.{inl}
 use borrow.Author.Needs.{needs}
 use Rattle.machine.specs.Calls.{openingFrom}
 use Rattle.session_opening.specs.declared.Opened.{Opened}
 use Rattle.session_opening.specs.Opening.{openingOf}
-use Rattle.saved_interview.specs.TakingUp.Theorem.{held, all-made, none-made}
+use Rattle.saved_interview.specs.TakingUp.Theorem.{replay-outcome}
 use Rattle.saved_interview.proofs.open_and_replay.Statement.{statement}
 use Rattle.saved_interview.proofs.open_and_replay.Tie as tie
 
@@ -43,24 +42,10 @@ returns c =
 
 returns-2 : tie.Need-returns-2
 returns-2 c =
-    let d = c .before in
-    let r = replayed (d .before .before) in
-    let o = found r in (
-      inr (inr (held _ _ _ _ _ _ _ _ _ (record {
-        start = o .opened .given .0 .0;
-        opens = opening (o .before .before) _ (o .opened .given .1);
-        made = all-made _ _ _ _ _ _ _ (d .enum-told .given .1) (r .replay .ensures);
-        answer = c .in-words .ensures;
-      }))),
-      λ e. absurd (true≢false e),
-    )
-
-returns-3 : tie.Need-returns-3
-returns-3 c =
-    let d = c .before in
-    let r = replayed (d .before .before) in
-    let none = none-made _ _ _ _ _ _ _ (d .enum-told2 .given .1) (r .replay .ensures) in
-    (inr (inl (record { short = none .short; answer = c .in-words2 .ensures; same-record = refl; same-words = none .same-words })), λ e. refl)
+    let r = replayed (c .before) in
+    let o = found r in
+    replay-outcome _ _ _ _ _ _ _ _ _ _ (o .opened .given .0 .0) _ (r .replay .result .log) (opening (o .before .before) _ (o .opened .given .1))
+    (r .replay .ensures) (c .turn-after .ensures)
 
 pub open-and-replay-spec : {M : Type 1} → statement M
 open-and-replay-spec =
@@ -74,15 +59,8 @@ open-and-replay-spec =
     (λ c. search needs)
     returns
     (λ c κs. search needs)
-    (λ c. search needs)
-    (λ c κs. search needs)
-    (λ c. search needs)
     (λ c κs. search needs)
     (λ c. search needs)
     (λ c. search needs)
     (λ c. search needs)
-    returns-2
-    (λ c. search needs)
-    (λ c. search needs)
-    (λ c. search needs)
-    returns-3)
+    returns-2)

@@ -1,18 +1,21 @@
 -- Two saved interviews that were taken up hold the same list (`same-list-taken-up`); and every one that was taken up has demand 3 and its trace
 -- (`held`).
-use mathlib.Core.Path.{_≡_, refl, subst}
-use mathlib.Core.Bool.{Bool, true, false}
+use mathlib.Core.Path.{_≡_, refl, sym, _∙_, subst}
+use mathlib.Core.Logic.{inl, inr}
+use mathlib.Core.Bool.{Bool, true, false, true≢false}
 use mathlib.Core.List.{List}
 use Prim.Native.Nat.{ℕ}
 use Rattle.session.specs.declared.Session.{Session}
 use Rattle.session.specs.Choice.{chosen}
+use Rattle.machine.specs.Machine.{opened}
+use Rattle.machine.specs.Calls.{stateOf, openingFrom}
 use Rattle.answer_words.specs.declared.Answer.{Answer as Coded}
-use Rattle.call_logs.specs.Replay.{LogWords, AllMade, NoneMade, ReplaySays}
+use Rattle.call_logs.specs.Replay.{LogWords, AllMade, ReplaySays}
 use Rattle.call_logs.specs.declared.Log.{Log}
 use Rattle.call_logs.specs.declared.Log.the-variants.{Replayed, Short}
 use Rattle.saved_interview.specs.Demand3Whole.Theorem.{demand-3-whole, same-list-whole}
 use Rattle.saved_interview.specs.Trace.Proof.{trace}
-use Rattle.saved_interview.specs.TakingUp.{TakenUp, interview, Held, Outcome, SameListTakenUp}
+use Rattle.saved_interview.specs.TakingUp.{TurnAfter, TakenUp, interview, Held, Outcome, SameListTakenUp}
 
 pub held : (n used : ℕ) (background calls : List ℕ) (before : Session) (words : LogWords) (x : Coded) (after : Session) (words′ : LogWords)
     → TakenUp n used background calls before words x after words′ → Held n used background calls before words x after words′
@@ -27,12 +30,24 @@ same-list-taken-up n background used used′ calls calls′ before before′ wor
 
 -- ---- what a replay says of its log
 
-module _ (background calls : List ℕ) (s : Session) (before : LogWords) (s′ : Session) (after : LogWords) where
-  pub all-made : (log : Log) → log ≡ Replayed → ReplaySays background calls s before s′ after log → AllMade background calls s before s′ after
-  all-made log e h = subst (ReplaySays background calls s before s′ after) e h
-
-  pub none-made : (log : Log) → log ≡ Short → ReplaySays background calls s before s′ after log → NoneMade background calls s before s′ after
-  none-made log e h = subst (ReplaySays background calls s before s′ after) e h
+-- with the opening and the turn after it, this is what taking up says
+pub replay-outcome : (n used : ℕ) (background calls : List ℕ) (before : Session) (words : LogWords) (x : Coded) (left : Session) (words′ : LogWords) (changed : Bool)
+    (start after : Session) (log : Log) → opened (stateOf start (words .rows) (words .list) background) ≡ openingFrom n used (words .rows) (words .list) background
+    → ReplaySays background calls start words after words′ log → TurnAfter before log after x left changed
+    → Outcome n used background calls before words x left words′ × (changed ≡ false → left ≡ before)
+replay-outcome n used background calls before words x left words′ changed start after Replayed opens made (answer, (is, change)) = (
+  inr (inr (held n used background calls before words x left words′ (record {
+    start = start;
+    opens = opens;
+    made = subst (λ z. AllMade background calls start words z words′) (sym is) made;
+    answer = answer;
+  }))),
+  λ e. absurd (true≢false (sym change ∙ e)),
+)
+replay-outcome n used background calls before words x left words′ changed start after Short opens none (answer, (is, change)) = (
+  inr (inl (record { short = none .short; answer = answer; same-record = is; same-words = none .same-words })),
+  λ e. is,
+)
 
 -- ---- the record after it
 
