@@ -31,7 +31,7 @@ use machine::Answer;
 use random::Random;
 
 /// From this many scripts on, every code that a call can give has to be seen often.
-const DEFAULT_COUNT: u64 = 20_000;
+const DEFAULT_COUNT: u64 = 40_000;
 const OFTEN: u64 = 100;
 
 /// The seed of the script that is being played.
