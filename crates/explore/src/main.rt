@@ -1,19 +1,8 @@
 // The interview of the complete table on standard input (01: the program). Beside it, on standard error: why a file is refused.
-ghost use mathlib.Core.Path.{_≡_};
-ghost use mathlib.Core.Bool.{_&&_};
-ghost use Prim.Native.Nat.{_-_};
-ghost use lib.ListN.{take, getD};
-ghost use lib.Dec.{eqb, leb};
 ghost use Rattle.io.specs.Counts.{Counts};
-ghost use Rattle.text.specs.Page.{Puts};
-ghost use Rattle.refusal_reports.specs.Reports.{explanation};
-ghost use Rattle.table_interview.specs.Run.{Answers};
-use handed_output::Told;
 use libc::STDERR_FILENO;
 use libc::STDIN_FILENO;
-use libc::STDOUT_FILENO;
 use refusal_reports::REPORT_BYTES;
-use session::Session;
 use table_interview::FILE_BYTES;
 use table_interview::OUTPUT_BYTES;
 
@@ -43,40 +32,6 @@ fn read_input(fd: i32, file: &mut [u8]) -> Input
         size,
         failed: false,
     }
-}
-
-// Lends all places of a session. What is handed over to be written, line by line, is what the buffer holds in the end.
-fn answer(file: &[u8; FILE_BYTES], size: usize, out: &mut [u8; OUTPUT_BYTES]) -> Told
-    requires { ⌜ Counts size (now file) ⌝ }
-    ensures { λ r. ⌜ Answers file size out r ⌝ }
-{
-    let bytes: &[u8] = file;
-    table_interview::hold(
-        &bytes[..size],
-        Session::ROWS,
-        Session::RULES,
-        out,
-        STDOUT_FILENO,
-    )
-}
-
-// Why the file is refused; nothing where it is a complete table.
-fn explain(file: &[u8; FILE_BYTES], size: usize, report: &mut [u8; REPORT_BYTES]) -> usize
-    requires { ⌜ Counts size (now file) ⌝ }
-    ensures { λ r. ⌜ Puts report 0 r (explanation (take size (now (file .entry)))) ⌝ }
-{
-    let bytes: &[u8] = file;
-    refusal_reports::put_explanation(report, 0, &bytes[..size])
-}
-
-// The output ends in the line `E 12 0`: an E seven bytes before the end. The E of an END line stands further from it.
-fn ran_out(out: &[u8; OUTPUT_BYTES], end: usize) -> bool
-    ensures { λ r. ⌜ r ≡ (leb 7 end && eqb (getD (now (out .entry)) (end - 7) 0) 69) ⌝ }
-{
-    if end < 7 {
-        return false;
-    }
-    file_mistakes::byte_at(out, end - 7) == b'E'
 }
 
 // Writes what stands at the start of a report to standard error.
@@ -116,17 +71,17 @@ fn main() {
         return;
     }
     let mut out = [0u8; OUTPUT_BYTES];
-    let told = answer(&file, input.size, &mut out);
+    let told = explore_answers::answer(&file, input.size, &mut out);
     if !told.handed.whole {
         io::write_all(STDERR_FILENO, b"standard output cannot be written\n");
     }
     let mut report = [0u8; REPORT_BYTES];
-    let explained = explain(&file, input.size, &mut report);
+    let explained = explore_answers::explain(&file, input.size, &mut report);
     say(&report, explained);
     if explained != 0 {
         return;
     }
-    if ran_out(&out, told.end) {
+    if explore_answers::ran_out(&out, told.end) {
         say_sentence(12);
     }
 }

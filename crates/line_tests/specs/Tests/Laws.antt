@@ -1,13 +1,20 @@
--- What a line that passes has: the test holds (`unless-fine`), a count in range (`count-fine`).
+-- A line of marks and lines that are none, computed (`marks`). What a line that passes has: the test holds (`unless-fine`), a count in
+-- range (`count-fine`).
 use mathlib.Core.Path.{_≡_, refl}
 use mathlib.Core.Bool.{Bool, true, false, _&&_, and-eq-true-iff}
-use mathlib.Core.List.{List}
+use mathlib.Core.List.{List, [], _∷_}
 use Prim.Native.Nat.{ℕ, suc, _≤_}
 use native.Mathlib.Omega.{arith}
 use lib.Dec.{leb}
 use borrow.Author.Tests.{leb-true}
+use Rattle.line_bytes.specs.Everywhere.{everywhere}
 use Rattle.table_counts.specs.Counts.{isCount, countOf}
-use Rattle.line_tests.specs.Tests.{refuseUnless, countFault}
+use Rattle.line_tests.specs.Tests.{refuseUnless, countFault, isMarks}
+
+-- two marks; one too few; a space
+marks : (isMarks 2 (88 ∷ 63 ∷ []) ≡ true) × (isMarks 2 (88 ∷ []) ≡ false) × (isMarks 2 (88 ∷ 32 ∷ []) ≡ false)
+unfolding everywhere
+marks = (refl, refl, refl)
 
 pub unless-fine : (t : Bool) (number : ℕ) → refuseUnless t (suc number) ≡ 0 → t ≡ true
 unless-fine true number e = refl

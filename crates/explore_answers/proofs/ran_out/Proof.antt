@@ -3,8 +3,8 @@ use mathlib.Core.Path.{ap}
 use lib.Dec.{eqb}
 use borrow.Author.Needs.{needs}
 use borrow.Author.Tests.{le-leb, lt-leb}
-use Rattle.explore.proofs.ran_out.Statement.{statement}
-use Rattle.explore.proofs.ran_out.Tie as tie
+use Rattle.explore_answers.proofs.ran_out.Statement.{statement}
+use Rattle.explore_answers.proofs.ran_out.Tie as tie
 
 returns : tie.Need-returns
 returns c = rw (lt-leb _ _ (c .if1 .taken))

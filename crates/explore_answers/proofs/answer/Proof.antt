@@ -1,0 +1,35 @@
+-- The type gives the buffer its length, and what is held is the output of every input that begins with what was read.
+use mathlib.Core.Path.{_≡_, sym, subst}
+use Prim.Native.Nat.{_≤_}
+use native.Mathlib.Omega.{arith}
+use lib.ListN.{length}
+use lib.Seq.{length-take-le}
+use Rattle.transcript.specs.Output.{inputMost, output}
+use Rattle.table_interview.specs.Run.{WritesIn}
+use Rattle.table_interview.specs.Run.Laws.{input-answered}
+use Rattle.explore_answers.specs.First.{first-bytes}
+use borrow.Author.Needs.{needs}
+use Rattle.explore_answers.proofs.answer.Statement.{statement}
+use Rattle.explore_answers.proofs.answer.Tie as tie
+
+abbrev start : tie.After-smaller → tie.Start
+start c = c .before .before
+
+-- the buffer's length
+sized : (c : tie.After-smaller) → length (start c .args .file .now) ≡ inputMost
+sized c = search needs
+
+slice-aggregate-hold : tie.Need-slice-aggregate-hold
+slice-aggregate-hold c = sym (length-take-le (c .before .smaller .result) (start (c .before) .args .file .now) (omega (arith, sized (c .before), c .before .smaller .ensures)))
+
+returns : tie.Need-returns
+returns c =
+    let d = c .before .before .before in
+    let a = start d .args in
+    let held = c .hold .last .1 .1 .1 .0 in
+    input-answered (a .file .now) (a .out .now) held (a .size) (c .hold .result) (sized d)
+    (subst (λ bs. WritesIn (a .out .now) held (c .hold .result) (output bs))
+    (first-bytes (a .size) (d .smaller .result) (a .file .now) (omega (arith, sized d, d .smaller .ensures))) (c .hold .ensures))
+
+pub answer-spec : {M : Type 1} → statement M
+answer-spec = tie.close (tie.spec (λ c κs. search needs) slice-aggregate-hold (λ c κs. search needs) returns)
