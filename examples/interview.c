@@ -148,7 +148,8 @@ static void read_table(const char *path) {
     if (answer.code == ZUNDRAFL_TAKEN) zundrafl_read_marks(&layout, file, bytes, rows, ROW_WORDS, &answer);
     if (answer.code != ZUNDRAFL_TAKEN) {
         size_t line = 1;
-        for (size_t i = 0; i < answer.first && i < bytes; i++) line += file[i] == '\n';
+        for (size_t i = 0; i < answer.first && i < bytes; i++)
+            line += file[i] == '\n' || (file[i] == '\r' && (i + 1 == bytes || file[i + 1] != '\n'));
         fprintf(stderr, "%s, line %zu: ", path, line);
         show_sentence(answer.code);
         exit(1);

@@ -63,7 +63,8 @@ impl Interview {
             unsafe { zundrafl_read_marks(&layout, f, size, rows.as_mut_ptr(), ROW_WORDS, &mut a) };
         }
         if a.code != TAKEN {
-            let line = 1 + file.iter().take(a.first as usize).filter(|b| **b == b'\n').count();
+            let ends = |i: &usize| file[*i] == b'\n' || file[*i] == b'\r' && file.get(i + 1) != Some(&b'\n');
+            let line = 1 + (0..size.min(a.first as usize)).filter(ends).count();
             return Err(Stop(format!("{path}, line {line}: {}", sentence(a.code)), 1));
         }
         let name = |a: &Answer| String::from_utf8_lossy(&file[a.first as usize..][..a.second as usize]).into_owned();

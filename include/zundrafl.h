@@ -147,7 +147,8 @@ void zundrafl_open_and_replay(zundrafl_session *session, size_t n, size_t used, 
  * 21 longer than 65,535 bytes       24 a count out of range          27 a line of marks
  * 22 the first line is not `B`      25 the title or the empty line   28 a line after the last one needed is not empty
  * 23 a count line                   26 a name
- */
+ * A line ends at a line feed, at a carriage return followed by a line feed, at a carriage return alone, or at the end of the file; its end
+ * is no part of it. */
 
 /* Opens a table file and writes *layout. 21 to 28. */
 void zundrafl_open_table(zundrafl_layout *layout, const uint8_t *file, size_t bytes, zundrafl_answer *answer);

@@ -23,9 +23,19 @@ def random_table(rnd):
         n, rows = rnd.randint(1, 10), rnd.choice([0, 1, 2, 5, 20, 100, 512])
     else:
         n, rows = rnd.randint(11, 64), rnd.randint(0, 11)
-    end = rnd.choice(["\n", "\n", "\r\n"])
+    end = rnd.choice(["\n", "\n", "\r\n", "\r"])
     title = "t" * rnd.choice([0, 0, 1, 80])
-    return tables.table(["row %d" % i for i in range(rows)], ["p%d" % i for i in range(n)], marks(rnd, n, rows), end, title)
+    file = tables.table(["row %d" % i for i in range(rows)], ["p%d" % i for i in range(n)], marks(rnd, n, rows), end, title)
+    return mixed(rnd, file.split(end.encode())) if rnd.random() < 0.2 else file
+
+
+def mixed(rnd, lines):
+    """The lines, each with one of the three ends, but no line feed alone right behind a carriage return; the last, empty one with none."""
+    file = b""
+    for line in lines[:-1]:
+        file += line
+        file += rnd.choice([b"\r\n", b"\r"] if file.endswith(b"\r") else [b"\n", b"\r\n", b"\r"])
+    return file
 
 
 def damaged(rnd, file):
@@ -42,16 +52,17 @@ def damaged(rnd, file):
         elif kind == 3:
             file = file[:at] + file[at + rnd.randint(1, 5) :]
         elif kind == 4:
-            lines = file.split(b"\n")
+            end = b"\n" if b"\n" in file else b"\r"
+            lines = file.split(end)
             k = rnd.randrange(len(lines))
             lines[k : k + 1] = rnd.choice([[], [lines[k], lines[k]], [b""], [b"y" * 81], [b"9999"], [b"0"], [b"65"]])
-            file = b"\n".join(lines)
+            file = end.join(lines)
         elif kind == 5:
-            file += rnd.choice([b"\n", b"\n\n", b"\r\n", b" \n", b"z", b"\n" * 65536])
+            file += rnd.choice([b"\n", b"\n\n", b"\r\n", b"\r", b"\r\r\n", b" \n", b"z", b"\n" * 65536])
         elif kind == 6:
             file = file.replace(b".", b"?", 1) if rnd.random() < 0.5 else file[::-1].replace(b"X", b"?", 1)[::-1]
         else:
-            file = file.rstrip(b"\n")
+            file = file.rstrip(rnd.choice([b"\n", b"\r", b"\r\n"]))
     return file
 
 

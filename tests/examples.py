@@ -75,17 +75,22 @@ def files(runs):
         28: (good + "more", 10),
     }
     for number, (text, line) in wrong.items():
-        path = runs.path(f"wrong{number}", text)
-        runs.run([path], "", 1, out="", err=f"{path}, line {line}: {refused(number)}")
-    for name, text in [("bom", "\ufeff" + good), ("utf16", good.encode("utf-16")), ("empty", ""), ("crs", good.replace("\n", "\r"))]:
+        for end in ["\n"] if number == 21 else ["\n", "\r\n", "\r"]:
+            path = runs.path(f"wrong{number}", text.replace("\n", end))
+            runs.run([path], "", 1, out="", err=f"{path}, line {line}: {refused(number)}")
+    for name, text in [("bom", "\ufeff" + good), ("utf16", good.encode("utf-16")), ("empty", "")]:
         runs.run([runs.path(name, text)], "", 1, out="", part=refused(22))
 
 
 def interviews(runs):
     with open("tests/interview.replies") as replies, open("tests/interview.list") as wanted:
         replies, wanted = replies.read(), wanted.read()
+    with open(PETS) as table_file:
+        pets = table_file.read()
     said = runs.run([PETS], replies, 0, out=wanted, err="Write yes, or no and 4 marks: X yes, . no, ? unknown.\n" + refused(10))
     assert said.startswith("Does every row have breathes air? ") and "Does every row with flies have breathes air? " in said
+    for end in ["\r\n", "\r"]:
+        assert runs.run([runs.path("ended", pets.replace("\n", end))], replies, 0, out=wanted) == said
     loose = replies.replace("yes", " Y ").replace("no ", "N  ").replace("\n", "\r\n")
     runs.run([PETS], loose.replace(" Y ", "YES", 1).rstrip("\r\n"), 0, out=wanted)
     runs.run([PETS], "", 1, out="\n0 rules, 3 rows, not finished\n", err="")

@@ -45,6 +45,11 @@ FILES = {
     "refused-27": tables.example().replace(b".XX\n", b".XY\n"),
     "refused-28": tables.example() + b"\n \n",
     "refused-29": tables.example().replace(b".XX\n", b".X?\n"),
+    # lines that end in carriage returns alone, and in each of the three ends
+    "example-cr": tables.example("\r"),
+    "example-cr-no-last-end": tables.example("\r")[:-1],
+    "example-mixed": b"".join(line + end for line, end in zip(tables.example().split(b"\n"), [b"\n", b"\r", b"\r\n"] * 6)),
+    "refused-29-cr": tables.example("\r").replace(b".XX\r", b".X?\r"),
     # more rules than places
     "rules-run-out": many_rules(13),
     # every set is visited

@@ -41,10 +41,9 @@ REFUSED = [
     (22, 0, "line 1: B alone expected; the file begins with a byte-order mark", b"\xef\xbb\xbf" + table()),
     (22, 0, "line 1: B alone expected; the file looks like UTF-16", b"\xff\xfe" + table().decode().encode("utf-16-le")),
     (22, 0, "line 1: B alone expected; the file looks like UTF-16", b"\xfe\xff" + table().decode().encode("utf-16-be")),
-    (22, 0, "line 1: B alone expected; the lines end in carriage returns alone", table(end="\r")),
-    (22, 0, "line 1: B alone expected; the lines end in carriage returns alone", b"B\r"),
     (22, 0, "line 1: B alone expected; it is a small b", b"b" + table()[1:]),
     (22, 0, "line 1: B alone expected; it is a small b", b"b" + table(end="\r\n")[1:]),
+    (22, 0, "line 1: B alone expected; it is a small b", b"b" + table(end="\r")[1:]),
     (22, 0, "line 1: B alone expected; it is a small b", b"b"),
     (22, 0, "line 1: B alone expected; the file looks like another format", b"<xml/>\n"),
     (22, 0, "line 1: B alone expected; the file looks like another format", b"\n" + table()),
@@ -53,6 +52,8 @@ REFUSED = [
     (23, 3, "line 3: 1 to 4 digits expected", lines("B", "", "00002", "3")),
     (23, 5, "line 4: 1 to 4 digits expected", lines("B", "", "2", "x")),
     (23, 3, "line 3: 1 to 4 digits expected", b"B\n\n"),
+    (23, 3, "line 3: 1 to 4 digits expected", b"B\r\r"),
+    (23, 5, "line 3: 1 to 4 digits expected", b"B\r\n\r\n"),
     (23, 4, "line 4: 1 to 4 digits expected", b"B\n\n2"),
     (23, 5, "line 4: 1 to 4 digits expected", b"B\n\n2\n"),
     (24, 3, "line 3: at most 512 rows, 1 to 64 properties expected", lines("B", "", "513", "3")),
@@ -60,6 +61,7 @@ REFUSED = [
     (25, 2, "line 2: a title of at most 80 bytes, an empty line 5 expected", table(title=LONG)),
     (25, 7, "line 5: a title of at most 80 bytes, an empty line 5 expected", lines("B", "", "2", "3", "row")),
     (25, 1, "line 2: a title of at most 80 bytes, an empty line 5 expected", b"B"),
+    (25, 2, "line 2: a title of at most 80 bytes, an empty line 5 expected", b"B\r"),
     (26, 10, "line 7: a name of 1 to 80 bytes expected", table(rows=["1", ""])),
     (26, 12, "line 8: a name of 1 to 80 bytes expected", table(properties=[LONG, "b", "c"])),
     (27, 18, "line 11: 3 marks out of X x . ? expected", table(marks=["XX", ".X."])),
@@ -67,8 +69,11 @@ REFUSED = [
     (27, 22, "line 12: 3 marks out of X x . ? expected", table(marks=["XX."])),
     (27, 21, "line 12: 3 marks out of X x . ? expected", table(marks=["XX."])[:-1]),
     (27, 32, "line 11: 3 marks out of X x . ? expected", table(marks=["XX/", ".X."], end="\r\n", title="xxxx")),
+    (27, 27, "line 11: 3 marks out of X x . ? expected", table(rows=["1", "2\rx"], end="\r\n")),
     (28, 27, "line 14: the end of the file expected", table() + b"\nX"),
+    (28, 29, "line 15: the end of the file expected", table(end="\r") + b"\r\n\rX"),
     (29, 22, "line 12: marks out of X x . expected", table(marks=["XX.", ".X?"])),
+    (29, 22, "line 12: marks out of X x . expected", table(marks=["XX.", ".X?"], end="\r")),
 ]
 
 
@@ -89,7 +94,7 @@ def refusals(program):
 
 def quiet(program):
     """A complete table: nothing is said."""
-    for file in [table(), table(end="\r\n"), table()[:-1], tables.numbered(1, []), tables.costly(5)]:
+    for file in [table(), table(end="\r\n"), table(end="\r"), table()[:-1], table(end="\r\n")[:-1], tables.numbered(1, []), tables.costly(5)]:
         out, err, status = run(program, file)
         assert out.splitlines()[-1].startswith("END ") and err == "" and status == 0, (out, err)
 

@@ -1,20 +1,17 @@
 #!/usr/bin/env python3
-"""Works out what the program table_edges has to write, from the scope document alone, and says whether the stored files agree.
+"""Works out what the program table_edges has to write, from the scope document and its requests alone, and says whether the stored files
+agree.
 
     tests/table_edges.py            compare the data, args and stdout of crates/table_edges with what is worked out here
     tests/table_edges.py --write    write them anew
 """
-import os, sys
+import os, re, sys
 
 HERE = os.path.join(os.path.dirname(os.path.abspath(__file__)), "..", "crates", "table_edges")
 def lines(b):
     out=[];i=0
-    while i<len(b):
-        j=b.find(b'\n',i)
-        if j<0: out.append((i,b[i:]));break
-        c=b[i:j]
-        if c.endswith(b'\r'): c=c[:-1]
-        out.append((i,c)); i=j+1
+    for end in re.finditer(rb'\r\n|\r|\n',b): out.append((i,b[i:end.start()])); i=end.end()
+    if i<len(b): out.append((i,b[i:]))
     return out
 def read(b):
     if len(b)>65535: return ('E',21,65535)
@@ -88,6 +85,19 @@ pad=65535-len(ex); add('bytes-65535',ex+b'\n'*pad); add('bytes-65536',ex+b'\n'*(
 L=ex.split(b'\n')
 for k in range(len(L)): add('cut-%02d'%k,b'\n'.join(L[:k])+(b'\n' if k else b'')); 
 for k in range(1,len(L)): add('cut-%02d-no-feed'%k,b'\n'.join(L[:k]))
+def ended(b,*ends):
+    lines=b.split(b'\n'); return b''.join(l+ends[i%len(ends)] for i,l in enumerate(lines[:-1]))
+CR,LF,BOTH=b'\r',b'\n',b'\r\n'
+cr=ended(ex,CR)
+add('cr',cr); add('cr-no-last-end',cr[:-1]); add('cr-last-of-crlf',ended(ex,BOTH)[:-1]); add('cr-at-end-alone',ex[:-1]+CR); add('cr-two-at-end',cr+CR)
+add('cr-cr-lf-last',ex[:-1]+CR+BOTH); add('cr-cr-lf-tail',ex[:-1]+CR+BOTH+b'x'); add('lf-cr-last',ex+CR); add('lf-cr-tail',ex+CR+b'x'); add('lf-cr-blank',ex.replace(b'3\n\n',b'3\n\r',1)); add('cr-cr-lf-blank',ex.replace(b'3\n\n',b'3\r\r\n',1)); add('cr-lf-blank-lost',ex.replace(b'3\n\n',b'3\r\n',1))
+add('cr-in-title',table(1,2,title='t\rx')); add('cr-in-name',table(2,2,rn=lambda i:'rx'[i]).replace(b'r\nx',b'r\rx')); add('cr-in-last-name',table(1,2,an=lambda j:['a','b\rc'][j])); add('cr-in-marks',table(2,2).replace(b'X.\n..',b'X.\r..'))
+add('mixed',ended(ex,LF,CR,BOTH)); add('mixed-cr-first',ended(ex,CR,BOTH,LF)); add('mixed-no-last-end',ended(ex,BOTH,LF,CR).rstrip(b'\r\n'))
+add('cr-count-bad',ended(table(1,3,rc='x'),CR)); add('cr-name-81',ended(table(1,1,rn=lambda i:'n'*81),CR)); add('cr-marks-short',ended(table(2,3,mark=lambda i,j:'X' if i==0 or j<2 else ''),CR)); add('cr-tail',cr+b'x'); add('cr-rows-0',ended(table(0,3),CR)); add('cr-rows-0-no-last-end',ended(table(0,3),CR)[:-1])
+for n,e in [('cr',CR),('lf',LF),('crlf',BOTH)]: add('names-80-'+n,ended(table(2,2,title='t'*80,rn=lambda i:'n'*80,an=lambda j:'a'*80),e)); add('name-81-'+n,ended(table(1,2,an=lambda j:'a'*(80+j)),e))
+add('cr-unknown',ended(table(3,3,mark=lambda i,j:['X.x','.?X','?..'][i][j]),CR)); add('cr-unknown-no-last-end',ended(table(2,3,mark=lambda i,j:['X.x','.X?'][i][j]),CR)[:-1]); add('mixed-unknown',ended(table(2,3,mark=lambda i,j:['X.x','.?X'][i][j]),BOTH,CR,LF))
+add('cr-bytes-65535',cr+CR*(65535-len(cr)))
+for k in range(1,len(L)): add('cr-cut-%02d'%k,CR.join(L[:k])+CR)
 files = {"data/" + n: b for n, b in F}
 files["args"] = ("\n".join(n for n, _ in F) + "\n").encode()
 files["stdout"] = ("\n".join(show(n, b) for n, b in F) + "\n").encode()

@@ -1,4 +1,4 @@
-//! The table file, read as document 01 says ("The table file", refusals 21 to 29).
+//! The table file, read as document 01 says ("The table file", refusals 21 to 29), with the line ends of request 1/13.
 
 pub const MAX_BYTES: usize = 65_535;
 pub const MAX_ROWS: usize = 512;
@@ -36,17 +36,14 @@ impl<'a> Lines<'a> {
             return None;
         }
         let rest = &self.file[self.at..];
-        match rest.iter().position(|&b| b == b'\n') {
-            Some(end) => {
-                self.at += end + 1;
-                let line = &rest[..end];
-                Some(line.strip_suffix(b"\r").unwrap_or(line))
-            }
-            None => {
-                self.at = self.file.len();
-                Some(rest)
-            }
-        }
+        let size = rest.iter().position(|b| b"\r\n".contains(b)).unwrap_or(rest.len());
+        let end = match &rest[size..] {
+            [] => 0,
+            [b'\r', b'\n', ..] => 2,
+            _ => 1,
+        };
+        self.at += size + end;
+        Some(&rest[..size])
     }
 
     fn refuse<T>(&self, number: u64) -> Result<T, Refusal> {

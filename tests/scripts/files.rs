@@ -243,11 +243,10 @@ impl Script<'_> {
 
     fn text(&mut self, length: usize) -> Vec<u8> {
         let byte = |random: &mut Random| match random.below(8) {
-            0 => b'\r',
-            1 => random.word() as u8,
+            0 => random.word() as u8,
             _ => b'a' + random.below(26) as u8,
         };
-        (0..length).map(|_| byte(&mut self.random)).map(|b| if b == b'\n' { b' ' } else { b }).collect()
+        (0..length).map(|_| byte(&mut self.random)).map(|b| if b"\r\n".contains(&b) { b' ' } else { b }).collect()
     }
 
     fn name(&mut self) -> Vec<u8> {
@@ -287,16 +286,16 @@ impl Script<'_> {
         format!("{count:0width$}").into_bytes()
     }
 
-    /// Joins lines by line feeds, with or without carriage returns, the last with or without its end.
+    /// Joins lines by line feeds, carriage returns, both, or mixed, the last with or without its end or half of it.
     fn join(&mut self, lines: &[Vec<u8>]) -> Vec<u8> {
-        let carriage_returns = self.random.below(3);
+        const ENDS: [&[u8]; 3] = [b"\n", b"\r\n", b"\r"];
+        let kind = self.random.below(4);
         let mut file = vec![];
         for line in lines {
             file.extend(line);
-            if carriage_returns == 2 || carriage_returns == 1 && self.chance(2) {
-                file.push(b'\r');
-            }
-            file.push(b'\n');
+            // Right behind a carriage return a line feed would belong to the same end.
+            let first = usize::from(file.last() == Some(&b'\r'));
+            file.extend(ENDS[if kind < 3 { kind } else { first + self.random.below(3 - first) }]);
         }
         if self.chance(3) {
             file.pop();

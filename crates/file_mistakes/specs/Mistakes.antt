@@ -1,6 +1,6 @@
--- Which mistake a table file looks like whose first line is not `B` alone (refusal 22), by its first bytes: 1 to 6; and a
+-- Which mistake a table file looks like whose first line is not `B` alone (refusal 22), by its first bytes: 1 to 5; and a
 -- phrase for each (the words are not 01's).
-use mathlib.Core.Bool.{Bool, true, false, not, _&&_, _||_}
+use mathlib.Core.Bool.{Bool, true, false, _&&_, _||_}
 use mathlib.Core.List.{List, [], _∷_}
 use Prim.Native.Nat.{ℕ}
 use lib.ListN.{getD}
@@ -21,10 +21,6 @@ isOrderMark a b c = are a b 239 187 && eqb c 191
 abbrev pub isWide : ℕ → ℕ → Bool
 isWide a b = are a b 255 254 || are a b 254 255
 
--- `B` and a carriage return, with no line feed behind it
-abbrev pub isReturned : ℕ → ℕ → ℕ → Bool
-isReturned a b c = are a b 66 13 && not (eqb c 10)
-
 -- `b`, and the end of its line
 abbrev pub isSmall : ℕ → ℕ → Bool
 isSmall a b = are a b 98 10 || (are a b 98 13 || are a b 98 0)
@@ -34,10 +30,7 @@ unfoldable pub mistakeOf : ℕ → ℕ → ℕ → ℕ
 mistakeOf a b c =
     elim (isOrderMark a b c) [
       | true ↦ 2
-      | false ↦ elim (isWide a b) [
-        | true ↦ 3
-        | false ↦ elim (isReturned a b c) [ true ↦ 4 | false ↦ elim (isSmall a b) [ true ↦ 5 | false ↦ 6 ] ]
-      ]
+      | false ↦ elim (isWide a b) [ true ↦ 3 | false ↦ elim (isSmall a b) [ true ↦ 4 | false ↦ 5 ] ]
     ]
 
 -- 1 for an empty file; a byte past the end of the file counts as 0
@@ -53,7 +46,6 @@ mistakePhrases =
     "the file is empty" ∷
     "the file begins with a byte-order mark" ∷
     "the file looks like UTF-16" ∷
-    "the lines end in carriage returns alone" ∷
     "it is a small b" ∷
     "the file looks like another format" ∷
     []

@@ -2,7 +2,7 @@
 ghost use mathlib.Core.Path.{_≡_};
 ghost use lib.ListN.{getD};
 ghost use Rattle.text.specs.Page.{Puts};
-ghost use Rattle.file_mistakes.specs.Mistakes.{are, isOrderMark, isWide, isReturned, isSmall, mistakeOf, looksLike, mistakePhrase};
+ghost use Rattle.file_mistakes.specs.Mistakes.{are, isOrderMark, isWide, isSmall, mistakeOf, looksLike, mistakePhrase};
 
 // The byte at an offset; 0 past the end.
 pub fn byte_at(file: &[u8], i: usize) -> u8
@@ -44,16 +44,6 @@ fn is_wide(a: u8, b: u8) -> bool
     are_bytes(a, b, 0xFE, 0xFF)
 }
 
-// `B` and a carriage return, with no line feed behind it.
-fn is_returned(a: u8, b: u8, c: u8) -> bool
-    ensures { λ r. ⌜ r ≡ isReturned a b c ⌝ }
-{
-    if are_bytes(a, b, b'B', b'\r') {
-        return c != b'\n';
-    }
-    false
-}
-
 // `b`, and the end of its line.
 fn is_small(a: u8, b: u8) -> bool
     ensures { λ r. ⌜ r ≡ isSmall a b ⌝ }
@@ -77,16 +67,13 @@ fn mistake_of(a: u8, b: u8, c: u8) -> u64
     if is_wide(a, b) {
         return 3;
     }
-    if is_returned(a, b, c) {
+    if is_small(a, b) {
         return 4;
     }
-    if is_small(a, b) {
-        return 5;
-    }
-    6
+    5
 }
 
-// Which mistake a file looks like whose first line is not `B` alone: 1 to 6.
+// Which mistake a file looks like whose first line is not `B` alone: 1 to 5.
 pub fn looks_like(file: &[u8]) -> u64
     ensures { λ r. ⌜ r ≡ looksLike (now (file .entry)) ⌝ }
 {
@@ -107,7 +94,6 @@ pub fn put_mistake(out: &mut [u8], at: usize, mistake: u64) -> usize
 the file is empty
 the file begins with a byte-order mark
 the file looks like UTF-16
-the lines end in carriage returns alone
 it is a small b
 the file looks like another format",
         mistake,

@@ -1,26 +1,18 @@
--- The number of the line of a file that an offset lies in, by the line feeds before it.
-use mathlib.Core.Bool.{true, false, _||_}
-use mathlib.Core.List.{List, [], _∷_}
-use Prim.Native.Nat.{ℕ, _+_, _-_}
-use lib.ListN.{length, getD, take}
-use lib.Dec.{eqb, ltb}
-use Rattle.table_lines.specs.Lines.{lineFeed}
+-- The number of the line of a file that an offset lies in.
+use mathlib.Core.Bool.{true, false, _&&_}
+use mathlib.Core.List.{List}
+use Prim.Native.Nat.{ℕ, zero, suc}
+use lib.ListN.{length}
+use lib.Dec.{ltb, leb}
+use Rattle.table_lines.specs.Lines.{after}
 pub mod Laws
-pub mod Cases
 
--- how many line feeds a byte is, and bytes are
-abbrev pub fed : ℕ → ℕ
-fed b = elim (eqb b lineFeed) [ true ↦ 1 | false ↦ 0 ]
-
-unfoldable pub feedsAmong : List ℕ → ℕ
-feedsAmong [] = 0
-feedsAmong (b ∷ bs) = fed b + feedsAmong bs
-
--- 1 where the offset lies behind a last line that has no line feed
-abbrev pub unended : List ℕ → ℕ → ℕ
-unended file place =
-    elim (ltb place (length file) || (eqb (length file) 0 || eqb (getD file (length file - 1) 0) lineFeed)) [ true ↦ 0 | false ↦ 1 ]
+-- how many lines, from the one at an offset on and at most k, end before a place
+unfoldable pub endedBefore : ℕ → List ℕ → ℕ → ℕ → ℕ
+endedBefore zero file place at = 0
+endedBefore (suc k) file place at =
+    elim (ltb at (length file) && leb (after file at) place) [ true ↦ suc (endedBefore k file place (after file at)) | false ↦ 0 ]
 
 -- the number of the line that an offset lies in, the first being 1; the end of the file lies in the line that is missing there
 abbrev pub numberOfLine : List ℕ → ℕ → ℕ
-numberOfLine file place = 1 + feedsAmong (take place file) + unended file place
+numberOfLine file place = suc (endedBefore (length file) file place 0)

@@ -2,19 +2,14 @@
 -- property.
 use mathlib.Core.Bool.{Bool, true, false, _&&_}
 use mathlib.Core.List.{List}
-use Prim.Native.Nat.{ℕ, zero, suc}
+use Prim.Native.Nat.{ℕ}
 use lib.Dec.{ltb}
 use lib.ListN.{drop}
-use Rattle.table_lines.specs.Lines.{lineOf, after}
+use Rattle.table_lines.specs.Lines.{lineOf, skipped}
 use Rattle.found_layout.specs.Found.{finds}
 use Rattle.table_layout.specs.declared.Layout.{Layout}
 use Rattle.name_spans.specs.declared.Span.{Span}
 pub mod Laws
-
--- where the line begins that is k lines further on
-unfoldable pub skipped : ℕ → List ℕ → ℕ → ℕ
-skipped zero file at = at
-skipped (suc k) file at = skipped k file (after file at)
 
 -- a part of the file
 abbrev pub span : ℕ → ℕ → Span

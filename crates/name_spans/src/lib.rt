@@ -1,7 +1,8 @@
 // Where the names of a table file stand in it, by number. An object is 01's row, an attribute its property.
 ghost use mathlib.Core.Path.{_≡_};
 ghost use Rattle.found_layout.specs.Found.{finds};
-ghost use Rattle.name_spans.specs.Spans.{skipped, spanFrom, objectSpan, attributeSpan};
+ghost use Rattle.table_lines.specs.Lines.{skipped};
+ghost use Rattle.name_spans.specs.Spans.{spanFrom, objectSpan, attributeSpan};
 use table_layout::Layout;
 
 // A part of the file: where it begins, and how many bytes it has.

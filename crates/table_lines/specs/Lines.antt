@@ -1,6 +1,8 @@
--- Where a line ends and the next one begins (01, "The table file": a line ends at a line feed, with a carriage return just
--- before it taken away, or at the end of the file). All else goes through `lineOf` and its laws.
-use mathlib.Core.Bool.{Bool, true, false, _&&_}
+-- Where a line ends and the next one begins (02, request 1/13: a line ends at a line feed, at a carriage return followed by a line
+-- feed, at a carriage return alone, or at the end of the file). All else goes through `lineOf` and its laws.
+use mathlib.Core.Path.{_≡_}
+use mathlib.Core.Bool.{Bool, true, false}
+use mathlib.Core.Logic.{_⊎_}
 use mathlib.Core.List.{List, [], _∷_}
 use Prim.Native.Nat.{ℕ, zero, suc, _+_}
 use lib.ListN.{take, drop}
@@ -19,6 +21,24 @@ abbrev pub feeds : List ℕ → Bool
 feeds [] = false
 feeds (b ∷ bs) = eqb b lineFeed
 
+-- how many bytes a line end has that begins with a carriage return, by the bytes behind that
+abbrev pub returned : List ℕ → ℕ
+returned bs = elim (feeds bs) [ true ↦ 2 | false ↦ 1 ]
+
+-- how many bytes the line end has that the bytes begin with; 0 where they begin with none
+abbrev pub endOf : List ℕ → ℕ
+endOf [] = 0
+endOf (b ∷ bs) = elim (eqb b lineFeed) [ true ↦ 1 | false ↦ elim (eqb b carriageReturn) [ true ↦ returned bs | false ↦ 0 ] ]
+
+-- a line's end, before the bytes behind it: a line feed; a carriage return and a line feed; a carriage return alone, with no line feed
+-- behind it
+abbrev pub IsEnd : List ℕ → List ℕ → Type 0
+IsEnd e behind = (e ≡ lineFeed ∷ []) ⊎ ((e ≡ carriageReturn ∷ lineFeed ∷ []) ⊎ ((e ≡ carriageReturn ∷ []) × (feeds behind ≡ false)))
+
+-- a byte that is in no line's end
+abbrev pub NoEnd : ℕ → Type 0
+NoEnd b = (b ≡ lineFeed → ⊥) × (b ≡ carriageReturn → ⊥)
+
 -- a line with this many bytes, and this many up to where the next one begins
 abbrev pub line : ℕ → ℕ → Line
 line size step = record { size = size; step = step }
@@ -29,11 +49,7 @@ longer l = line (suc (l .size)) (suc (l .step))
 -- the line that begins where the bytes begin
 unfoldable pub lineOf : List ℕ → Line
 lineOf [] = line 0 0
-lineOf (b ∷ bs) =
-    elim (eqb b lineFeed) [
-      | true ↦ line 0 1
-      | false ↦ elim (eqb b carriageReturn && feeds bs) [ true ↦ line 0 2 | false ↦ longer (lineOf bs) ]
-    ]
+lineOf (b ∷ bs) = elim (eqb (endOf (b ∷ bs)) 0) [ true ↦ longer (lineOf bs) | false ↦ line 0 (endOf (b ∷ bs)) ]
 
 -- the bytes of the line that begins at an offset, and where the next one begins
 abbrev pub bytesAt : List ℕ → ℕ → List ℕ
@@ -42,8 +58,7 @@ bytesAt file at = take (lineOf (drop at file) .size) (drop at file)
 abbrev pub after : List ℕ → ℕ → ℕ
 after file at = at + lineOf (drop at file) .step
 
--- the lines with their ends, from the beginning on, at most k of them
-unfoldable pub pieces : ℕ → List ℕ → List (List ℕ)
-pieces zero bs = []
-pieces (suc k) [] = []
-pieces (suc k) (b ∷ bs) = take (lineOf (b ∷ bs) .step) (b ∷ bs) ∷ pieces k (drop (lineOf (b ∷ bs) .step) (b ∷ bs))
+-- where the line begins that is k lines further on
+unfoldable pub skipped : ℕ → List ℕ → ℕ → ℕ
+skipped zero file at = at
+skipped (suc k) file at = skipped k file (after file at)

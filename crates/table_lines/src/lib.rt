@@ -1,10 +1,8 @@
 // The lines of a table file: where each one ends and the next one begins.
 ghost use mathlib.Core.Path.{_≡_};
-ghost use mathlib.Core.Bool.{_&&_};
-ghost use Prim.Native.Nat.{_+_, _<_};
-ghost use lib.ListN.{length, getD, drop};
-ghost use lib.Dec.{eqb};
-ghost use Rattle.table_lines.specs.Lines.{carriageReturn, feeds, lineOf, after};
+ghost use Prim.Native.Nat.{_<_};
+ghost use lib.ListN.{length, drop};
+ghost use Rattle.table_lines.specs.Lines.{returned, endOf, lineOf, after};
 
 // A line: how many bytes it has, and how many there are up to where the next one begins.
 pub struct Line {
@@ -12,19 +10,29 @@ pub struct Line {
     pub step: usize,
 }
 
-// A carriage return stands at i, with a line feed behind it.
-fn returns_at(file: &[u8], i: usize) -> bool
-    requires { ⌜ i < length (now file) ⌝ }
-    ensures { λ r. ⌜ r ≡ (eqb (getD (now (file .entry)) i 0) carriageReturn && feeds (drop (i + 1) (now (file .entry)))) ⌝ }
+// How many bytes a line end has whose carriage return stands just before an offset.
+fn returned_at(file: &[u8], next: usize) -> usize
+    ensures { λ r. ⌜ r ≡ returned (drop next (now (file .entry))) ⌝ }
 {
-    if file[i] != b'\r' {
-        return false;
+    if next >= file.len() {
+        return 1;
     }
-    let next = i + 1;
-    if next < file.len() {
-        return file[next] == b'\n';
+    match file[next] {
+        b'\n' => 2,
+        _ => 1,
     }
-    false
+}
+
+// How many bytes the line end at i has; 0 where none begins there.
+fn end_at(file: &[u8], i: usize) -> usize
+    requires { ⌜ i < length (now file) ⌝ }
+    ensures { λ r. ⌜ r ≡ endOf (drop i (now (file .entry))) ⌝ }
+{
+    match file[i] {
+        b'\n' => 1,
+        b'\r' => returned_at(file, i + 1),
+        _ => 0,
+    }
 }
 
 // The line that begins at an offset; past the end of the file a line without bytes.
@@ -33,16 +41,11 @@ pub fn line_at(file: &[u8], at: usize) -> Line
 {
     let mut i = at;
     while i < file.len() {
-        if file[i] == b'\n' {
+        let end = end_at(file, i);
+        if end != 0 {
             return Line {
                 size: i - at,
-                step: i - at + 1,
-            };
-        }
-        if returns_at(file, i) {
-            return Line {
-                size: i - at,
-                step: i - at + 2,
+                step: i - at + end,
             };
         }
         i += 1;

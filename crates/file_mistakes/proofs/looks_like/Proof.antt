@@ -1,5 +1,5 @@
 -- An empty file, or one with a first byte.
-use mathlib.Core.Path.{_≡_, sym, _∙_}
+use mathlib.Core.Path.{sym}
 use borrow.Author.Needs.{needs}
 use Rattle.file_mistakes.specs.Mistakes.Laws.{looks-none, looks-some}
 use Rattle.file_mistakes.proofs.looks_like.Statement.{statement}

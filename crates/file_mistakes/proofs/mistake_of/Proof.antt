@@ -2,8 +2,8 @@
 use mathlib.Core.Path.{_≡_, sym, _∙_}
 use mathlib.Core.Bool.{false}
 use borrow.Author.Needs.{needs}
-use Rattle.file_mistakes.specs.Mistakes.{isOrderMark, isWide, isReturned}
-use Rattle.file_mistakes.specs.Mistakes.Laws.{mistake-2, mistake-3, mistake-4, mistake-5, mistake-6}
+use Rattle.file_mistakes.specs.Mistakes.{isOrderMark, isWide}
+use Rattle.file_mistakes.specs.Mistakes.Laws.{mistake-2, mistake-3, mistake-4, mistake-5}
 use Rattle.file_mistakes.proofs.mistake_of.Statement.{statement}
 use Rattle.file_mistakes.proofs.mistake_of.Tie as tie
 
@@ -14,9 +14,6 @@ unmarked c = sym (c .before .is-order-mark .ensures) ∙ c .if1 .left
 narrow : (c : tie.Else2) → let a = c .before .before .before .before .args in isWide (a .a) (a .b) ≡ false
 narrow c = sym (c .before .is-wide .ensures) ∙ c .if2 .left
 
-unreturned : (c : tie.Else3) → let a = c .before .before .before .before .before .before .args in isReturned (a .a) (a .b) (a .c) ≡ false
-unreturned c = sym (c .before .is-returned .ensures) ∙ c .if3 .left
-
 returns : tie.Need-returns
 returns c = sym (mistake-2 _ _ _ (sym (c .before .is-order-mark .ensures) ∙ c .if1 .taken))
 
@@ -26,21 +23,12 @@ returns-2 c = sym (mistake-3 _ _ _ (unmarked (c .before .before)) (sym (c .befor
 returns-3 : tie.Need-returns-3
 returns-3 c =
     let w = c .before .before in
-    sym (mistake-4 _ _ _ (unmarked (w .before .before)) (narrow w) (sym (c .before .is-returned .ensures) ∙ c .if3 .taken))
+    sym (mistake-4 _ _ _ (unmarked (w .before .before)) (narrow w) (sym (c .before .is-small .ensures) ∙ c .if3 .taken))
 
 returns-4 : tie.Need-returns-4
 returns-4 c =
-    let r = c .before .before in
-    let w = r .before .before in
-    let e = sym (c .before .is-small .ensures) ∙ c .if4 .taken in
-    sym (mistake-5 _ _ _ (unmarked (w .before .before)) (narrow w) (unreturned r) e)
-
-returns-5 : tie.Need-returns-5
-returns-5 c =
-    let r = c .before .before in
-    let w = r .before .before in
-    let e = sym (c .before .is-small .ensures) ∙ c .if4 .left in
-    sym (mistake-6 _ _ _ (unmarked (w .before .before)) (narrow w) (unreturned r) e)
+    let w = c .before .before in
+    sym (mistake-5 _ _ _ (unmarked (w .before .before)) (narrow w) (sym (c .before .is-small .ensures) ∙ c .if3 .left))
 
 pub mistake-of-spec : {M : Type 1} → statement M
 mistake-of-spec =
@@ -52,6 +40,4 @@ mistake-of-spec =
     returns-2
     (λ c κs. search needs)
     returns-3
-    (λ c κs. search needs)
-    returns-4
-    returns-5)
+    returns-4)

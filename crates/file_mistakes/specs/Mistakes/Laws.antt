@@ -5,7 +5,7 @@ use mathlib.Core.List.{List, [], _∷_}
 use Prim.Native.Nat.{ℕ}
 use native.Mathlib.Omega.{arith}
 use lib.ListN.{length, getD}
-use Rattle.file_mistakes.specs.Mistakes.{isOrderMark, isWide, isReturned, isSmall, mistakeOf, looksLike}
+use Rattle.file_mistakes.specs.Mistakes.{isOrderMark, isWide, isSmall, mistakeOf, looksLike}
 
 module _ (a b c : ℕ) where
   pub mistake-2 : isOrderMark a b c ≡ true → mistakeOf a b c ≡ 2
@@ -16,18 +16,14 @@ module _ (a b c : ℕ) where
   unfolding mistakeOf
   mistake-3 e f = rw (e, f, mistakeOf)
 
-  pub mistake-4 : isOrderMark a b c ≡ false → isWide a b ≡ false → isReturned a b c ≡ true → mistakeOf a b c ≡ 4
-  unfolding mistakeOf
-  mistake-4 e f g = rw (e, f, g, mistakeOf)
-
-  module _ (e : isOrderMark a b c ≡ false) (f : isWide a b ≡ false) (g : isReturned a b c ≡ false) where
-    pub mistake-5 : isSmall a b ≡ true → mistakeOf a b c ≡ 5
+  module _ (e : isOrderMark a b c ≡ false) (f : isWide a b ≡ false) where
+    pub mistake-4 : isSmall a b ≡ true → mistakeOf a b c ≡ 4
     unfolding mistakeOf
-    mistake-5 h = rw (e, f, g, h, mistakeOf)
+    mistake-4 g = rw (e, f, g, mistakeOf)
 
-    pub mistake-6 : isSmall a b ≡ false → mistakeOf a b c ≡ 6
+    pub mistake-5 : isSmall a b ≡ false → mistakeOf a b c ≡ 5
     unfolding mistakeOf
-    mistake-6 h = rw (e, f, g, h, mistakeOf)
+    mistake-5 g = rw (e, f, g, mistakeOf)
 
 -- an empty file, and another
 pub looks-none : (file : List ℕ) → length file ≡ 0 → looksLike file ≡ 1

@@ -1,56 +1,69 @@
--- The line feeds before the offset are those of the part of the file before it.
-use mathlib.Core.Path.{_≡_, sym, ap, _∙_}
-use Prim.Native.Nat.{_≤_}
+-- The number so far, with the lines that end before the place from here on, is the number.
+use mathlib.Core.Path.{_≡_, ap}
+use mathlib.Core.List.{List}
+use Prim.Native.Nat.{ℕ, _+_, _-_, _≤_, _<_}
 use native.Mathlib.Omega.{arith}
 use borrow.Author.Needs.{needs}
-use lib.ListN.{length, take}
-use lib.Seq.{length-take-le}
-use Rattle.line_numbers.specs.Numbers.{feedsAmong}
-use Rattle.line_numbers.specs.Numbers.Laws.{feeds-few, unended-small, take-within}
+use lib.ListN.{length}
+use Rattle.table_lines.specs.Lines.Laws.{after-inside, after-moves}
+use Rattle.line_numbers.specs.Numbers.{endedBefore, numberOfLine}
+use Rattle.line_numbers.specs.Numbers.Laws.{ended-past, ended-here, ended-next}
 use Rattle.line_numbers.proofs.line_number.Statement.{statement}
 use Rattle.line_numbers.proofs.line_number.Tie as tie
 
--- the part lies in the file
-inside : (c : tie.After-smaller) → c .smaller .result ≤ length (c .before .before .args .file .now)
-inside c = omega (arith, c .smaller .ensures)
+abbrev Inv-loop : tie.InvT-loop
+Inv-loop file place number₀ at₀ number at =
+    (at ≤ length file) × (number ≤ at + 1) × (number + endedBefore (length file) file place at ≡ numberOfLine file place)
 
-slice-aggregate-feeds-among : tie.Need-slice-aggregate-feeds-among
-slice-aggregate-feeds-among c = sym (length-take-le _ _ (inside (c .before)))
+abbrev μ-loop : tie.MeasureT-loop
+μ-loop file place number₀ at₀ number at = length file - at
 
--- no more line feeds are found than the file has bytes
-few : (c : tie.After-feeds-among) → c .feeds-among .result ≤ length (c .before .before .before .before .args .file .now)
-few c =
-    let s = c .before .before in
-    let file = s .before .before .args .file .now in
-    let end = s .smaller .result in
-    omega (arith, c .feeds-among .ensures, feeds-few (take end file), length-take-le end file (inside s), inside s)
+-- the file, the place and where the line begins, in a turn of the loop
+abbrev file : tie.In-loop Inv-loop μ-loop → List ℕ
+file t = t .before .before .before .args .file .now
 
-add-result : tie.Need-add-result
-add-result c = omega (arith, few c)
+abbrev place : tie.In-loop Inv-loop μ-loop → ℕ
+place t = t .before .before .before .args .place
 
-add-result-2 : tie.Need-add-result-2
-add-result-2 c =
-    let a = c .before .before .before .before .before .args in
-    omega (arith, few (c .before), c .unended-at .ensures, unended-small (a .file .now) (a .place))
+abbrev at : tie.In-loop Inv-loop μ-loop → ℕ
+at t = t .before .loop .at
 
-returns : tie.Need-returns
+-- the next line begins behind this one, inside the file
+next : (c : tie.After-next-at Inv-loop μ-loop)
+    → let t = c .before in
+    (at t < c .next-at .result) × (c .next-at .result ≤ length (file t))
+next c =
+    let t = c .before in
+    let h : at t < length (file t) = omega arith in
+    (omega (arith, c .next-at .ensures, after-moves (file t) (at t) h), omega (arith, c .next-at .ensures, after-inside (file t) (at t) (omega arith)))
+
+loop-holds : tie.Need-loop-holds Inv-loop μ-loop
+loop-holds c = (omega arith, omega arith, omega arith)
+
+returns : tie.Need-returns Inv-loop μ-loop
 returns c =
-    let f = c .before in
-    let s = f .before .before in
-    let a = s .before .before .args in
-    let file = a .file .now in
-    let e : f .feeds-among .result ≡ feedsAmong (take (a .place) file) =
-    f .feeds-among .ensures ∙ ap (λ k. feedsAmong (take k file)) (s .smaller .ensures) ∙ ap feedsAmong (take-within (a .place) file) in
-    omega (arith, c .unended-at .ensures)
+    let t = c .before .before in
+    omega (arith, ended-here (file t) (place t) (length (file t)) (at t) (omega (arith, c .before .next-at .ensures)))
+
+add-number : tie.Need-add-number Inv-loop μ-loop
+add-number c = omega (arith, next (c .before))
+
+loop-less : tie.Need-loop-less Inv-loop μ-loop
+loop-less c = omega (arith, next (c .before))
+
+loop-again : tie.Need-loop-again Inv-loop μ-loop
+loop-again c =
+    let t = c .before .before in
+    let e = c .before .next-at .ensures in
+    let n = ended-next (file t) (place t) (at t) (omega arith) (omega (arith, e)) in
+    let m = ap (endedBefore (length (file t)) (file t) (place t)) e in
+    (next (c .before) .1, omega (arith, next (c .before)), omega arith)
+
+returns-2 : tie.Need-returns-2 Inv-loop μ-loop
+returns-2 c =
+    let a = c .before .before .before .args in
+    omega (arith, ended-past (a .file .now) (a .place) (length (a .file .now)) (c .before .loop .at) (omega arith))
 
 pub line-number-spec : {M : Type 1} → statement M
 line-number-spec =
-    tie.close
-    (tie.spec
-    (λ c κs. search needs)
-    slice-aggregate-feeds-among
-    (λ c κs. search needs)
-    add-result
-    (λ c κs. search needs)
-    add-result-2
-    returns)
+    tie.close (tie.spec Inv-loop μ-loop loop-holds (λ c κs. search needs) returns add-number loop-less loop-again returns-2)

@@ -4,7 +4,7 @@ use Prim.Native.Nat.{suc, _≤_, _+_, _-_}
 use native.Mathlib.Omega.{arith}
 use native.Mathlib.Nat.{sub-zero}
 use borrow.Author.Needs.{needs}
-use Rattle.name_spans.specs.Spans.{skipped}
+use Rattle.table_lines.specs.Lines.{skipped}
 use Rattle.name_spans.proofs.skip.Statement.{statement}
 use Rattle.name_spans.proofs.skip.Tie as tie
 

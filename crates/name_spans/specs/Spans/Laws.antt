@@ -6,8 +6,8 @@ use mathlib.Core.List.{List, [], _∷_}
 use Prim.Native.Nat.{ℕ, _≤_, _<_}
 use lib.ListN.{drop}
 use borrow.Author.Tests.{lt-ltb, le-ltb}
-use Rattle.table_lines.specs.Lines.{lineOf}
-use Rattle.name_spans.specs.Spans.{skipped, span, spanFrom}
+use Rattle.table_lines.specs.Lines.{lineOf, skipped}
+use Rattle.name_spans.specs.Spans.{span, spanFrom}
 
 -- computed, of the names `a` and `bc`: number 1; number 2 and a layout that is not found have none
 cases : (spanFrom true 2 0 1 (97 ∷ 10 ∷ 98 ∷ 99 ∷ []) ≡ span 2 2)

@@ -1,6 +1,7 @@
 -- A name is the bytes of its line (`span-name`), which lie inside the file (`span-inside`, `object-span-inside`,
 -- `attribute-span-inside`). No name is empty, and none has more than 80 bytes (`object-name-some`, `attribute-name-some`). So the refusal
--- is 3 just for a number past the last and for a layout that reading the file does not find (`object-refused`, `attribute-refused`).
+-- is 3 just for a number past the last and for a layout that reading the file does not find (`object-refused`, `attribute-refused`). No
+-- byte of a name is a line feed or a carriage return (`object-name-no-end`, `attribute-name-no-end`).
 use mathlib.Core.Path.{_≡_, sym, refl, ap, _∙_}
 use mathlib.Core.Bool.{Bool, true, false, _&&_, and-eq-true-iff}
 use mathlib.Core.List.{List, []}
@@ -9,12 +10,14 @@ use native.Mathlib.Omega.{arith}
 use lib.ListN.{length, take, drop, replicate}
 use lib.Dec.{ltb, leb}
 use borrow.Author.Tests.{ltb-true, leb-true, ne-eqb}
+use Rattle.theory.specs.Lists.{All}
+use Rattle.theory.specs.Lists.Laws.{all-nil}
 use Rattle.table_kinds.specs.declared.Kind.{Kind}
 use Rattle.table_kinds.specs.declared.Kind.the-variants.{Name}
 use Rattle.table_layout.specs.declared.Layout.{Layout}
 use Rattle.table_layout.specs.declared.Opened.the-variants.{Found}
-use Rattle.table_lines.specs.Lines.{lineOf, bytesAt, after}
-use Rattle.table_lines.specs.Lines.Laws.{bytes-inside, after-inside}
+use Rattle.table_lines.specs.Lines.{NoEnd, lineOf, bytesAt, after, skipped}
+use Rattle.table_lines.specs.Lines.Laws.{bytes-inside, bytes-no-end, skipped-inside}
 use Rattle.line_tests.specs.Tests.{mostNameBytes}
 use Rattle.line_faults.specs.Faults.{fault}
 use Rattle.line_walk.specs.Walk.{lineFault, walk}
@@ -28,15 +31,10 @@ use Rattle.table_walk.specs.Walk.Passed.{line-there, passes-append, passes-cons
 use Rattle.table_layout.specs.Layout.Passed.{opened-table, starts-inside}
 use Rattle.name_spans.specs.declared.Span.{Span}
 use Rattle.name_spans.specs.Spans.Laws.{span-there}
-use Rattle.name_spans.specs.Spans.{skipped, span, spanFrom, objectSpan, attributeSpan}
+use Rattle.name_spans.specs.Spans.{span, spanFrom, objectSpan, attributeSpan}
 use Rattle.table_names.specs.Names.{bytesOf, nameFrom, objectName, attributeName, nameRefusal}
 
 -- ---- a name by its number
-
-skipped-inside : (k : ℕ) (file : List ℕ) (at : ℕ) → at ≤ length file → skipped k file at ≤ length file
-unfolding skipped
-skipped-inside zero file at h = h
-skipped-inside (suc k) file at h = skipped-inside k file (after file at) (after-inside file at h)
 
 module _ (found : Bool) (count start k : ℕ) (file : List ℕ) where
   -- the bytes there are those of the name's line
@@ -55,6 +53,14 @@ module _ (found : Bool) (count start k : ℕ) (file : List ℕ) where
   name-there : found ≡ true → k < count → nameFrom found count start k file ≡ bytesAt file (skipped k file start)
   name-there e h = ap (bytesOf file) (span-there found count start k file e h)
 
+  -- none is one of an end
+  name-no-end : All NoEnd (nameFrom found count start k file)
+  name-no-end = rw span-name (go (found && ltb k count))
+    where
+      go : (b : Bool) → All NoEnd (elim b [ true ↦ bytesAt file (skipped k file start) | false ↦ [] ])
+      go true = bytes-no-end file (skipped k file start)
+      go false = all-nil _
+
   -- and lie inside the file
   pub span-inside : (found ≡ true → start ≤ length file) → spanFrom found count start k file .at + spanFrom found count start k file .size ≤ length file
   span-inside h = go (found && ltb k count) refl
@@ -69,6 +75,12 @@ module _ (found : Bool) (count start k : ℕ) (file : List ℕ) where
       go false e = omega arith
 
 module _ (file : List ℕ) (l : Layout) (k : ℕ) where
+  pub object-name-no-end : All NoEnd (objectName file l k)
+  object-name-no-end = name-no-end (finds file l) (l .objects) (l .«object_names») k file
+
+  pub attribute-name-no-end : All NoEnd (attributeName file l k)
+  attribute-name-no-end = name-no-end (finds file l) (l .attributes) (l .«attribute_names») k file
+
   pub object-span-inside : objectSpan file l k .at + objectSpan file l k .size ≤ length file
   object-span-inside =
       span-inside (finds file l) (l .objects) (l .«object_names») k file λ e. starts-inside file l (finds-table file l .0 e) .0

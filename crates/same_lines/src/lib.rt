@@ -1,0 +1,1 @@
+// Table files with the same lines. There is no code: what is proved stands in specs/.
