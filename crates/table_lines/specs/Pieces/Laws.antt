@@ -233,11 +233,11 @@ pub lines-unended : (l : List ℕ) → All NoEnd l → 0 < length l → linesOf 
 lines-unended l h some = ap (map (λ (p : Piece). p .bytes)) (pieces-unended l h some)
 
 -- a byte more before the first line
-abbrev before : ℕ → List (List ℕ) → List (List ℕ)
-before b [] = (b ∷ []) ∷ []
-before b (l ∷ ls) = (b ∷ l) ∷ ls
+abbrev prefixed : ℕ → List (List ℕ) → List (List ℕ)
+prefixed b [] = (b ∷ []) ∷ []
+prefixed b (l ∷ ls) = (b ∷ l) ∷ ls
 
-lines-byte : (b : ℕ) (bs : List ℕ) → NoEnd b → linesOf (b ∷ bs) ≡ before b (linesOf bs)
+lines-byte : (b : ℕ) (bs : List ℕ) → NoEnd b → linesOf (b ∷ bs) ≡ prefixed b (linesOf bs)
 unfolding piecesFrom
 lines-byte b [] n = lines-unended (b ∷ []) (all-cons n (all-nil _)) (omega arith)
 lines-byte b (c ∷ cs) n =
@@ -245,7 +245,7 @@ lines-byte b (c ∷ cs) n =
     let first = pieces-some (b ∷ c ∷ cs) (omega arith) in
     ap (map (λ (p : Piece). p .bytes)) first
     ∙ ap (λ (l : Line). take (l .size) (b ∷ c ∷ cs) ∷ linesOf (drop (l .step) (b ∷ c ∷ cs))) f
-    ∙ sym (ap (λ ps. before b (map (λ (p : Piece). p .bytes) ps)) (pieces-some (c ∷ cs) (omega arith)))
+    ∙ sym (ap (λ ps. prefixed b (map (λ (p : Piece). p .bytes) ps)) (pieces-some (c ∷ cs) (omega arith)))
 
 lines-both : (bs : List ℕ) → feeds bs ≡ true → linesOf (13 ∷ bs) ≡ [] ∷ linesOf (drop 1 bs)
 lines-both [] f = absurd (false≢true f)
@@ -271,7 +271,7 @@ lines-same x cs ds f e d = go (eqb x 10) (eqb x 13) (feeds cs) refl refl refl
         ∙ sym (lines-ended [] (13 ∷ []) ds h (inr (inr (refl, sym f ∙ w)))))
     go false false v q r w =
         let n : NoEnd x = (eqb-false _ _ q, eqb-false _ _ r) in
-        lines-byte x cs n ∙ ap (before x) e ∙ sym (lines-byte x ds n)
+        lines-byte x cs n ∙ ap (prefixed x) e ∙ sym (lines-byte x ds n)
 
 -- ---- the last line
 
