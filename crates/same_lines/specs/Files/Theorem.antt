@@ -1,6 +1,6 @@
 -- What a table file says depends on its lines alone: two files of at most 65,535 bytes with the same lines, whatever their ends, say the
--- same (`same-lines`), and the same line has the same number in both (`same-number`). So a file says the same whichever end its last line
--- has, and with none (`last-line-same`).
+-- same (`same-lines`), and the same line has the same number in both (`number-of`, `same-number`). So a file says the same whichever end
+-- its last line has, and with none (`last-line-same`).
 use mathlib.Core.Path.{_≡_, refl, sym, ap, _∙_}
 use mathlib.Core.Bool.{Bool, true, false}
 use mathlib.Core.List.{List, [], _∷_, _++_}
@@ -40,7 +40,7 @@ module _ (f g : List ℕ) where
       }
 
 -- the line that begins after i others has the number i + 1
-number-of : (file : List ℕ) (i : ℕ) → i ≤ length (linesOf file) → numberOfLine file (skipped i file 0) ≡ suc i
+pub number-of : (file : List ℕ) (i : ℕ) → i ≤ length (linesOf file) → numberOfLine file (skipped i file 0) ≡ suc i
 number-of file i h = go (ltb i (length (linesOf file))) refl
   where
     go : (t : Bool) → ltb i (length (linesOf file)) ≡ t → numberOfLine file (skipped i file 0) ≡ suc i

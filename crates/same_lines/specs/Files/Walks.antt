@@ -32,9 +32,9 @@ SameWalk f g (At at) (Failed r′) = ⊥
 SameWalk f g (Failed r) (At at′) = ⊥
 SameWalk f g (Failed r) (Failed r′) = SameRefusal f g r r′
 
--- there is a line i just before the number of lines
+-- there is a line i just if i is below the number of lines
 module _ (file : List ℕ) (i : ℕ) where
-  pub past : length (linesOf file) ≤ i → length file ≤ skipped i file 0
+  past : length (linesOf file) ≤ i → length file ≤ skipped i file 0
   past h = omega (arith, start-end file i h)
 
   there : ltb (skipped i file 0) (length file) ≡ ltb i (length (linesOf file))

@@ -1,7 +1,7 @@
 -- What the lines of a file are. Their bytes with their ends are the file again (`pieces-whole`); no line has a byte of an end, each end is
 -- one of the three, or nothing, at the end of the file alone (`pieces-lines`); and nothing but the rule meets both (`lines-only`). The
--- lines from the start of line i on are those of the file but the first i (`lines-left`), so line i is there just before the number of
--- lines (`start-there`, `start-end`) and has its bytes (`start-bytes`). A file's last line may have any of the ends or none
+-- lines from the start of line i on are those of the file but the first i (`lines-left`); so there is a line i just if i is below the
+-- number of lines (`start-there`, `start-end`), and it has its bytes (`start-bytes`). A file's last line may have any of the ends or none
 -- (`last-line-end`).
 use mathlib.Core.Path.{_≡_, refl, sym, ap, ap₂, _∙_}
 use mathlib.Core.Bool.{Bool, true, false, false≢true}
