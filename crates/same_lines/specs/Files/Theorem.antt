@@ -1,7 +1,8 @@
 -- What a table file says depends on its lines alone: two files of at most 65,535 bytes with the same lines, whatever their ends, say the
 -- same (`same-lines`), and the same line has the same number in both (`number-of`, `same-number`). So a file says the same whichever end
--- its last line has, and with none (`last-line-same`).
-use mathlib.Core.Path.{_≡_, refl, sym, ap, _∙_}
+-- its last line has, and with none (`last-line-same`). The place of a refusal is where a line begins, or the end of the file
+-- (`refused-at-a-line`).
+use mathlib.Core.Path.{_≡_, refl, sym, ap, subst, _∙_}
 use mathlib.Core.Bool.{Bool, true, false}
 use mathlib.Core.List.{List, [], _∷_, _++_}
 use Prim.Native.Nat.{ℕ, suc, _≤_}
@@ -18,7 +19,9 @@ use Rattle.line_numbers.specs.Numbers.Laws.{number-inside, number-past}
 use Rattle.table_layout.specs.Layout.{mostBytes, openedOf}
 use Rattle.complete_tables.specs.Complete.{openedComplete}
 use Rattle.mark_reading.specs.Marks.{reading, completeReading}
-use Rattle.same_lines.specs.Files.{SameLine, SaySame}
+use Rattle.session.specs.declared.Refusal.{Refusal}
+use Rattle.table_layout.specs.declared.Opened.the-variants.{Refused}
+use Rattle.same_lines.specs.Files.{SameLine, SameAnswer, SaySame}
 use Rattle.same_lines.specs.Files.Tables.{opened-same, complete-same, reading-same, words-same}
 
 module _ (f g : List ℕ) where
@@ -55,6 +58,13 @@ number-of file i h = go (ltb i (length (linesOf file))) refl
 pub same-number : (f g : List ℕ) (at at′ : ℕ) → linesOf f ≡ linesOf g → SameLine f g at at′ → numberOfLine f at ≡ numberOfLine g at′
 same-number f g at at′ e s =
     rw (s .2, s .3) (number-of f (s .0) (s .1) ∙ sym (number-of g (s .0) (rw (sym e) (s .1))))
+
+-- the line is missing where all lines stand before it
+pub refused-at-a-line : (file : List ℕ) (r : Refusal) → length file ≤ mostBytes → openedComplete file ≡ Refused r
+    → (i : ℕ) × (i ≤ length (linesOf file)) × (r .place ≡ skipped i file 0)
+refused-at-a-line file r h e =
+    let s = subst (λ o. SameAnswer file file o o) e (same-lines file file h h refl .opened-complete) .1 in
+    (s .0, s .1, s .2)
 
 -- a file whose last byte is none of an end, with an end behind it and without
 pub last-line-same : (bs : List ℕ) (b : ℕ) (e : List ℕ) → NoEnd b → IsEnd e [] → length (bs ++ (b ∷ e)) ≤ mostBytes
