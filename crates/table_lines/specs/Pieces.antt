@@ -33,9 +33,13 @@ piecesFrom (suc k) (b ∷ bs) = pieceOf (b ∷ bs) ∷ piecesFrom k (drop (lineO
 abbrev pub pieces : List ℕ → List Piece
 pieces file = piecesFrom (length file) file
 
+-- the bytes of each line, without its end
+abbrev pub withoutEnds : List Piece → List (List ℕ)
+withoutEnds = map (λ (p : Piece). p .bytes)
+
 -- the lines of a file: their bytes, without their ends
 abbrev pub linesOf : List ℕ → List (List ℕ)
-linesOf file = map (λ (p : Piece). p .bytes) (pieces file)
+linesOf file = withoutEnds (pieces file)
 
 -- ---- what a line is
 

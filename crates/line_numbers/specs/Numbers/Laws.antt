@@ -1,5 +1,6 @@
--- Computed cases (`cases`, `cases-returned`). The number says what it should: from where line i begins up to where the next one begins it is i + 1 (`number-inside`), and from the
--- end of the file on it is one more than the file has lines (`number-past`). The lines along an index, for the loop.
+-- Computed cases (`cases`, `cases-returned`). From where line i begins up to where the next one begins the number is i + 1
+-- (`number-inside`, `number-start`), and from the end of the file on it is one more than the file has lines (`number-past`). The lines
+-- along an index, for the loop.
 use mathlib.Core.Path.{_≡_, refl, sym, ap, _∙_}
 use mathlib.Core.Bool.{Bool, true, false, and-false}
 use mathlib.Core.List.{List, [], _∷_}
@@ -9,9 +10,9 @@ use lib.ListN.{length, drop}
 use lib.Dec.{ltb, leb}
 use borrow.Author.Tests.{ltb-true, ltb-false, lt-ltb, le-ltb, leb-true, leb-false, le-leb, lt-leb}
 use Rattle.table_lines.specs.Lines.{lineOf, after, skipped}
-use Rattle.table_lines.specs.Lines.Laws.{after-inside, after-moves, after-past}
+use Rattle.table_lines.specs.Lines.Laws.{after-inside, after-moves, after-past, skipped-suc}
 use Rattle.table_lines.specs.Pieces.{linesOf}
-use Rattle.table_lines.specs.Pieces.Laws.{lines-at, lines-end}
+use Rattle.table_lines.specs.Pieces.Laws.{lines-at, lines-end, start-there, start-end}
 use Rattle.line_numbers.specs.Numbers.{endedBefore, numberOfLine}
 
 -- computed: `B`, line feed, `t`, line feed, `3`: the first byte is in line 1, a line feed still in its line, what stands behind it in the
@@ -125,3 +126,16 @@ module _ (file : List ℕ) (place : ℕ) where
 
   pub number-past : length file ≤ place → numberOfLine file place ≡ suc (length (linesOf file))
   number-past p = ap suc (past-from (length file) 0 (omega arith) p)
+
+-- the line that begins after i others has the number i + 1
+pub number-start : (file : List ℕ) (i : ℕ) → i ≤ length (linesOf file) → numberOfLine file (skipped i file 0) ≡ suc i
+number-start file i h = go (ltb i (length (linesOf file))) refl
+  where
+    go : (t : Bool) → ltb i (length (linesOf file)) ≡ t → numberOfLine file (skipped i file 0) ≡ suc i
+    go true t =
+        let m = after-moves file _ (start-there file i (ltb-true _ _ t)) in
+        number-inside file _ i (omega arith) (omega (arith, skipped-suc i file 0))
+    go false t =
+        let l = ltb-false i (length (linesOf file)) t in
+        let k : length (linesOf file) ≡ i = omega arith in
+        number-past file _ (omega (arith, start-end file i l)) ∙ ap suc k

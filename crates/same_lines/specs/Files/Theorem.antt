@@ -1,21 +1,16 @@
 -- What a table file says depends on its lines alone: two files of at most 65,535 bytes with the same lines, whatever their ends, say the
--- same (`same-lines`), and the same line has the same number in both (`number-of`, `same-number`). So a file says the same whichever end
--- its last line has, and with none (`last-line-same`). The place of a refusal is where a line begins, or the end of the file
--- (`refused-at-a-line`).
-use mathlib.Core.Path.{_≡_, refl, sym, ap, subst, _∙_}
-use mathlib.Core.Bool.{Bool, true, false}
+-- same (`same-lines`), and the same line has the same number in both (`same-number`). So a file says the same whichever end its last line
+-- has, and with none (`last-line-same`). The place of a refusal is where a line begins, or the end of the file (`refused-at-a-line`).
+use mathlib.Core.Path.{_≡_, refl, sym, subst, _∙_}
 use mathlib.Core.List.{List, [], _∷_, _++_}
-use Prim.Native.Nat.{ℕ, suc, _≤_}
+use Prim.Native.Nat.{ℕ, _≤_}
 use native.Mathlib.Omega.{arith}
 use lib.ListN.{length, length-append}
-use lib.Dec.{ltb}
-use borrow.Author.Tests.{ltb-true, ltb-false}
 use Rattle.table_lines.specs.Lines.{IsEnd, NoEnd, skipped}
-use Rattle.table_lines.specs.Lines.Laws.{after-moves, skipped-suc}
 use Rattle.table_lines.specs.Pieces.{linesOf}
-use Rattle.table_lines.specs.Pieces.Laws.{start-there, start-end, last-line-end}
+use Rattle.table_lines.specs.Pieces.Laws.{last-line-end}
 use Rattle.line_numbers.specs.Numbers.{numberOfLine}
-use Rattle.line_numbers.specs.Numbers.Laws.{number-inside, number-past}
+use Rattle.line_numbers.specs.Numbers.Laws.{number-start}
 use Rattle.table_layout.specs.Layout.{mostBytes, openedOf}
 use Rattle.complete_tables.specs.Complete.{openedComplete}
 use Rattle.mark_reading.specs.Marks.{reading, completeReading}
@@ -42,22 +37,9 @@ module _ (f g : List ℕ) where
             (r, words-same f g e words (completeReading k f) (completeReading k g) r);
       }
 
--- the line that begins after i others has the number i + 1
-pub number-of : (file : List ℕ) (i : ℕ) → i ≤ length (linesOf file) → numberOfLine file (skipped i file 0) ≡ suc i
-number-of file i h = go (ltb i (length (linesOf file))) refl
-  where
-    go : (t : Bool) → ltb i (length (linesOf file)) ≡ t → numberOfLine file (skipped i file 0) ≡ suc i
-    go true t =
-        let m = after-moves file _ (start-there file i (ltb-true _ _ t)) in
-        number-inside file _ i (omega arith) (omega (arith, skipped-suc i file 0))
-    go false t =
-        let l = ltb-false i (length (linesOf file)) t in
-        let k : length (linesOf file) ≡ i = omega arith in
-        number-past file _ (omega (arith, start-end file i l)) ∙ ap suc k
-
 pub same-number : (f g : List ℕ) (at at′ : ℕ) → linesOf f ≡ linesOf g → SameLine f g at at′ → numberOfLine f at ≡ numberOfLine g at′
 same-number f g at at′ e s =
-    rw (s .2, s .3) (number-of f (s .0) (s .1) ∙ sym (number-of g (s .0) (rw (sym e) (s .1))))
+    rw (s .2, s .3) (number-start f (s .0) (s .1) ∙ sym (number-start g (s .0) (rw (sym e) (s .1))))
 
 -- the line is missing where all lines stand before it
 pub refused-at-a-line : (file : List ℕ) (r : Refusal) → length file ≤ mostBytes → openedComplete file ≡ Refused r

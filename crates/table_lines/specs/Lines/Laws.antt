@@ -1,6 +1,6 @@
 -- What a line end is (`end-is`, `end-only`), and how the first line moves along the bytes (`line-end`, `line-on`): it lies inside the
 -- bytes and takes at least one of them, and none of its bytes is a line feed or a carriage return (`no-end-byte`, `bytes-no-end`).
--- Nothing but the rule meets that: bytes without those, and then an end, are the line that is found (`line-ended`, `line-unended`).
+-- Nothing but the rule meets that: bytes without those, and then an end, are the line that is found (`line-ended`, `last-line`).
 use mathlib.Core.Path.{_≡_, refl, sym, ap, _∙_}
 use mathlib.Core.Bool.{Bool, true, false, false≢true}
 use mathlib.Core.Logic.{inl, inr}
@@ -16,8 +16,9 @@ use Rattle.theory.specs.Lists.Laws.{all-nil, all-cons, all-drop}
 use Rattle.table_lines.specs.declared.Line.{Line}
 use Rattle.table_lines.specs.Lines.{lineFeed, carriageReturn, feeds, returned, endOf, IsEnd, NoEnd, line, longer, lineOf, bytesAt, after, skipped}
 
--- the line ends, computed: a line feed; a carriage return and a line feed; a carriage return alone, before a byte, before another
--- carriage return, behind a line feed and at the end of the file; the end of the file; and the bytes of a last line without an end
+-- the line ends, computed: a line feed; a carriage return and a line feed; a carriage return alone, before a byte and before another
+-- carriage return; an empty line before a carriage return and a line feed, and before a line feed that a carriage return follows; a
+-- carriage return at the end of the file; the end of the file; and the bytes of a last line without an end
 ends : (lineOf (88 ∷ 10 ∷ 46 ∷ []) ≡ line 1 2)
     × (lineOf (88 ∷ 13 ∷ 10 ∷ 46 ∷ []) ≡ line 1 3)
     × (lineOf (88 ∷ 13 ∷ 46 ∷ []) ≡ line 1 2)
@@ -90,10 +91,10 @@ end-only e behind (inl p) = rw p (end-feed 10 behind refl)
 end-only e behind (inr (inl p)) = rw p (end-return 13 (10 ∷ behind) refl)
 end-only e behind (inr (inr (p, f))) = rw p (end-return 13 behind refl ∙ returned-alone behind f)
 
-end-some : (e behind : List ℕ) → IsEnd e behind → length e ≡ 0 → ⊥
-end-some e behind (inl p) z = absurd (omega (arith, ap length p))
-end-some e behind (inr (inl p)) z = absurd (omega (arith, ap length p))
-end-some e behind (inr (inr (p, f))) z = absurd (omega (arith, ap length p))
+pub end-some : (e behind : List ℕ) → IsEnd e behind → 0 < length e
+end-some e behind (inl p) = omega (arith, ap length p)
+end-some e behind (inr (inl p)) = omega (arith, ap length p)
+end-some e behind (inr (inr (p, f))) = omega (arith, ap length p)
 
 end-byte : (b : ℕ) (bs : List ℕ) → endOf (b ∷ bs) ≡ 0 → NoEnd b
 end-byte b bs z =
@@ -155,7 +156,7 @@ pub line-ended : (l e behind : List ℕ) → All NoEnd l → IsEnd e behind → 
 line-ended [] e behind h p =
     let o = end-only e behind p in
     let n : endOf (e ++ behind) ≡ 0 + length e = omega (arith, o) in
-    line-end (e ++ behind) (λ z. end-some e behind p (sym o ∙ z)) ∙ ap (line 0) n
+    line-end (e ++ behind) (λ z. absurd (omega (arith, end-some e behind p))) ∙ ap (line 0) n
 line-ended (b ∷ l) e behind h p =
     let n : suc (length l + length e) ≡ suc (length l) + length e = omega arith in
     line-on b (l ++ (e ++ behind)) (end-none b (l ++ (e ++ behind)) (h b (List·Memᴰ·head refl)))

@@ -6,7 +6,7 @@
 use mathlib.Core.Path.{_≡_, refl, sym, ap, ap₂, _∙_}
 use mathlib.Core.Bool.{Bool, true, false, false≢true}
 use mathlib.Core.Logic.{_⊎_, inl, inr}
-use mathlib.Core.List.{List, [], _∷_, _++_, map, append-nil, append-assoc, head-eq-of-cons-eq}
+use mathlib.Core.List.{List, [], _∷_, _++_, append-nil, append-assoc, head-eq-of-cons-eq}
 use Prim.Native.Nat.{ℕ, zero, suc, _+_, _≤_, _<_}
 use native.Mathlib.Omega.{arith}
 use lib.ListN.{length, getD, take, drop, take-append-drop, length-drop, drop-of-length-le, length-append}
@@ -17,8 +17,8 @@ use Rattle.theory.specs.Lists.{All}
 use Rattle.theory.specs.Lists.Laws.{all-nil, all-cons}
 use Rattle.table_lines.specs.declared.Line.{Line}
 use Rattle.table_lines.specs.Lines.{feeds, IsEnd, NoEnd, longer, lineOf, bytesAt, after, skipped}
-use Rattle.table_lines.specs.Lines.Laws.{end-is, end-none, line-none, line-on, line-cases, size-inside, step-moves, no-end-byte, line-ended, last-line, after-past, skipped-inside}
-use Rattle.table_lines.specs.Pieces.{Piece, joined, pieceOf, piecesFrom, pieces, linesOf, AreLines}
+use Rattle.table_lines.specs.Lines.Laws.{end-is, end-some, end-none, line-none, line-on, line-cases, size-inside, step-moves, no-end-byte, line-ended, last-line, after-past, skipped-inside}
+use Rattle.table_lines.specs.Pieces.{Piece, joined, pieceOf, piecesFrom, pieces, withoutEnds, linesOf, AreLines}
 
 -- computed: the three ends, a carriage return before a carriage return and a line feed, and a last line without an end
 cases : linesOf (66 ∷ 13 ∷ 88 ∷ 10 ∷ 46 ∷ 13 ∷ 10 ∷ 63 ∷ 13 ∷ 13 ∷ 10 ∷ 120 ∷ [])
@@ -91,12 +91,12 @@ ended-on : (b : ℕ) (bs : List ℕ) (l : Line) → Ended bs l → Ended (b ∷ 
 ended-on b bs l (inl p) = inl p
 ended-on b bs l (inr (p, q, h)) = inr (p, q, omega arith)
 
-piece-end : (b : ℕ) (bs : List ℕ) → Ended (b ∷ bs) (lineOf (b ∷ bs))
-piece-end b [] =
+ended-first : (b : ℕ) (bs : List ℕ) → Ended (b ∷ bs) (lineOf (b ∷ bs))
+ended-first b [] =
     line-cases b [] (Ended (b ∷ [])) (λ h. inl (end-is (b ∷ []) h)) (λ e. rw line-none (inr (refl, refl, omega arith)))
-piece-end b (c ∷ cs) =
+ended-first b (c ∷ cs) =
     line-cases b (c ∷ cs) (Ended (b ∷ c ∷ cs)) (λ h. inl (end-is (b ∷ c ∷ cs) h))
-    (λ e. ended-on b (c ∷ cs) (lineOf (c ∷ cs)) (piece-end c cs))
+    (λ e. ended-on b (c ∷ cs) (lineOf (c ∷ cs)) (ended-first c cs))
 
 pub pieces-lines : (file : List ℕ) → AreLines (pieces file)
 unfolding piecesFrom
@@ -109,7 +109,7 @@ pieces-lines file = go (length file) file (omega arith)
         let s = lineOf (b ∷ bs) .step in
         let l : length (drop s (b ∷ bs)) ≤ k = omega (arith, length-drop s (b ∷ bs), step-moves b bs) in
         let e = from-whole k (drop s (b ∷ bs)) l in
-        (no-end-byte (b ∷ bs), rw e (piece-end b bs), go k (drop s (b ∷ bs)) l)
+        (no-end-byte (b ∷ bs), rw e (ended-first b bs), go k (drop s (b ∷ bs)) l)
 
 -- ---- and nothing else is
 
@@ -130,8 +130,10 @@ module _ (l e behind : List ℕ) (h : All NoEnd l) where
       ∙ drop-append-add l (e ++ behind) (length e)
       ∙ drop-append-seam e behind
 
-  pub pieces-ended : IsEnd e behind → 0 < length (l ++ (e ++ behind)) → pieces (l ++ (e ++ behind)) ≡ record { bytes = l; end = e } ∷ pieces behind
-  pieces-ended p some =
+  pub pieces-ended : IsEnd e behind → pieces (l ++ (e ++ behind)) ≡ record { bytes = l; end = e } ∷ pieces behind
+  pieces-ended p =
+      let some : 0 < length (l ++ (e ++ behind)) =
+      omega (arith, length-append l (e ++ behind), length-append e behind, end-some e behind p) in
       pieces-some (l ++ (e ++ behind)) some ∙ ap₂ _∷_ (piece-ended p) (ap pieces (rest-ended p))
 
 -- a last line without an end
@@ -147,17 +149,10 @@ pieces-unended l h some =
     ∙ ap (λ (t : List ℕ). record { bytes = l; end = t }) (drop-length l))
     (ap pieces rest ∙ pieces-none)
 
-end-length : (e behind : List ℕ) → IsEnd e behind → 0 < length e
-end-length e behind (inl p) = omega (arith, ap length p)
-end-length e behind (inr (inl p)) = omega (arith, ap length p)
-end-length e behind (inr (inr (p, f))) = omega (arith, ap length p)
-
 pub lines-only : (ps : List Piece) → AreLines ps → pieces (joined ps) ≡ ps
 lines-only [] a = pieces-none
 lines-only (p ∷ ps) (h, inl e, a) =
-    let s : 0 < length (p .bytes ++ (p .end ++ joined ps)) =
-    omega (arith, length-append (p .bytes) (p .end ++ joined ps), length-append (p .end) (joined ps), end-length (p .end) (joined ps) e) in
-    pieces-ended (p .bytes) (p .end) (joined ps) h e s ∙ ap (λ qs. p ∷ qs) (lines-only ps a)
+    pieces-ended (p .bytes) (p .end) (joined ps) h e ∙ ap (λ qs. p ∷ qs) (lines-only ps a)
 lines-only (p ∷ ps) (h, inr (e, f, some), a) =
     let none : ps ≡ [] = sym (lines-only ps a) ∙ ap pieces f ∙ pieces-none in
     let alone : p .bytes ++ (p .end ++ joined ps) ≡ p .bytes = rw (e, f) (append-nil (p .bytes)) in
@@ -167,13 +162,13 @@ lines-only (p ∷ ps) (h, inr (e, f, some), a) =
 -- ---- the lines of a file, one by one
 
 pub lines-none : linesOf [] ≡ []
-lines-none = ap (map (λ (p : Piece). p .bytes)) pieces-none
+lines-none = ap withoutEnds pieces-none
 
 module _ (file : List ℕ) where
   -- the line at an offset, and those behind it
   pub lines-at : (at : ℕ) → at < length file → linesOf (drop at file) ≡ bytesAt file at ∷ linesOf (drop (after file at) file)
   lines-at at h =
-      ap (map (λ (p : Piece). p .bytes)) (pieces-some (drop at file) (omega (arith, length-drop at file)))
+      ap withoutEnds (pieces-some (drop at file) (omega (arith, length-drop at file)))
       ∙ ap (λ t. bytesAt file at ∷ linesOf t) (drop-drop (lineOf (drop at file) .step) at file)
 
   pub lines-end : (at : ℕ) → length file ≤ at → linesOf (drop at file) ≡ []
@@ -224,13 +219,10 @@ module _ (file : List ℕ) where
 
 -- a line with its end, and the lines behind it
 pub lines-ended : (l e behind : List ℕ) → All NoEnd l → IsEnd e behind → linesOf (l ++ (e ++ behind)) ≡ l ∷ linesOf behind
-lines-ended l e behind h p =
-    ap (map (λ (p : Piece). p .bytes))
-    (pieces-ended l e behind h p
-    (omega (arith, length-append l (e ++ behind), length-append e behind, end-length e behind p)))
+lines-ended l e behind h p = ap withoutEnds (pieces-ended l e behind h p)
 
 pub lines-unended : (l : List ℕ) → All NoEnd l → 0 < length l → linesOf l ≡ l ∷ []
-lines-unended l h some = ap (map (λ (p : Piece). p .bytes)) (pieces-unended l h some)
+lines-unended l h some = ap withoutEnds (pieces-unended l h some)
 
 -- a byte more before the first line
 abbrev prefixed : ℕ → List (List ℕ) → List (List ℕ)
@@ -243,9 +235,9 @@ lines-byte b [] n = lines-unended (b ∷ []) (all-cons n (all-nil _)) (omega ari
 lines-byte b (c ∷ cs) n =
     let f = line-on b (c ∷ cs) (end-none b (c ∷ cs) n) in
     let first = pieces-some (b ∷ c ∷ cs) (omega arith) in
-    ap (map (λ (p : Piece). p .bytes)) first
+    ap withoutEnds first
     ∙ ap (λ (l : Line). take (l .size) (b ∷ c ∷ cs) ∷ linesOf (drop (l .step) (b ∷ c ∷ cs))) f
-    ∙ sym (ap (λ ps. prefixed b (map (λ (p : Piece). p .bytes) ps)) (pieces-some (c ∷ cs) (omega arith)))
+    ∙ sym (ap (λ ps. prefixed b (withoutEnds ps)) (pieces-some (c ∷ cs) (omega arith)))
 
 lines-both : (bs : List ℕ) → feeds bs ≡ true → linesOf (13 ∷ bs) ≡ [] ∷ linesOf (drop 1 bs)
 lines-both [] f = absurd (false≢true f)
