@@ -14,14 +14,15 @@
 
 #include "zundrafl.h"
 
-enum { ROW_WORDS = 2 * ZUNDRAFL_MOST_ROWS, RULE_WORDS = 2 * ZUNDRAFL_MOST_RULES, LINE = 8192 };
+enum { ROW_WORDS = 2 * ZUNDRAFL_MOST_ROWS, RULE_WORDS = 2 * ZUNDRAFL_MOST_RULES, MOST_NAME = 80, LINE = 8192 };
 
 static const char USAGE[] =
-    "usage: interview [--background FILE] [--log FILE] TABLE\n"
+    "usage: interview [--background FILE] [--log FILE] [--save FILE] TABLE\n"
     "  TABLE       a table in Burmeister's layout; X yes, . no, ? unknown\n"
     "  background  rules that hold from the start, one a line: has fur, flies -> breathes air\n"
     "  log         the interview so far is taken up from it, and written to it as it goes\n"
-    "Answer a question with yes (y), or with no (n) and a row of marks that refutes it.\n";
+    "  save        the table with the rows of your replies is written to it at the end\n"
+    "Answer a question with yes (y), or with no (n) and a row of marks that refutes it; behind the marks the row may get a name.\n";
 
 static uint8_t file[ZUNDRAFL_MOST_BYTES + 1];
 static size_t bytes;
@@ -30,7 +31,8 @@ static size_t background_words;
 static zundrafl_layout layout;
 static zundrafl_session session;
 static zundrafl_answer answer;
-static char attribute_names[ZUNDRAFL_MOST_ATTRIBUTES][81], object_names[ZUNDRAFL_MOST_ROWS][81];
+static char attribute_names[ZUNDRAFL_MOST_ATTRIBUTES][MOST_NAME + 1];
+static char object_names[ZUNDRAFL_MOST_ROWS][MOST_NAME + 1]; /* empty for a counterexample without a name */
 static FILE *record; /* where the log is written */
 
 static void fail(const char *what, const char *path) {
@@ -51,7 +53,7 @@ static void show_set(FILE *to, uint64_t set) {
 }
 
 static void show_row(FILE *to, size_t row) {
-    if (row < layout.objects) fprintf(to, "row %zu (%s)", row + 1, object_names[row]);
+    if (row < layout.objects || object_names[row][0]) fprintf(to, "row %zu (%s)", row + 1, object_names[row]);
     else fprintf(to, "row %zu (the %zu. of your counterexamples)", row + 1, row + 1 - layout.objects);
 }
 
@@ -109,6 +111,22 @@ static void lower(char *text) {
     for (; *text; text++) *text = (char)tolower((unsigned char)*text);
 }
 
+/* A text without the white space around it. */
+static char *trimmed(char *text) {
+    while (isspace((unsigned char)*text)) text++;
+    for (char *end = text + strlen(text); end > text && isspace((unsigned char)end[-1]);) *--end = 0;
+    return text;
+}
+
+/* Cuts the first word off a text. */
+static char *next_word(char **text) {
+    char *word = trimmed(*text), *end = word;
+    while (*end && !isspace((unsigned char)*end)) end++;
+    *text = end;
+    if (*end) *text = trimmed(end + 1), *end = 0;
+    return word;
+}
+
 /* A row as the table file writes it. */
 static int read_row(const char *marks, uint64_t *yes, uint64_t *no) {
     *yes = *no = 0;
@@ -121,6 +139,11 @@ static int read_row(const char *marks, uint64_t *yes, uint64_t *no) {
     return 1;
 }
 
+/* A row, and behind it its name or nothing; a carriage return would end the name's line. */
+static int read_named_row(char **text, uint64_t *yes, uint64_t *no) {
+    return read_row(next_word(text), yes, no) && !strchr(*text, '\r');
+}
+
 /* Names between commas, or nothing. */
 static int read_set(char *text, uint64_t *set) {
     *set = 0;
@@ -128,8 +151,7 @@ static int read_set(char *text, uint64_t *set) {
         size_t i = 0;
         next = strchr(part, ',');
         if (next) *next++ = 0;
-        while (isspace((unsigned char)*part)) part++;
-        for (char *end = part + strlen(part); end > part && isspace((unsigned char)end[-1]);) *--end = 0;
+        part = trimmed(part);
         if (strcmp(part, "nothing") == 0) continue;
         while (i < layout.attributes && strcmp(attribute_names[i], part) != 0) i++;
         if (i == layout.attributes) return 0;
@@ -184,11 +206,11 @@ static void read_background(const char *path) {
 
 /* ---- the session */
 
-static void write_call(const char *call, uint64_t yes, uint64_t no) {
+static void write_call(const char *call, uint64_t yes, uint64_t no, const char *name) {
     if (!record) return;
     fputs(call, record);
     if (strcmp(call, "no") == 0) fputc(' ', record), show_marks(record, yes, no);
-    fputc('\n', record);
+    fprintf(record, "%s%s\n", *name ? " " : "", name);
     if (fflush(record) != 0) fail("cannot be written", "the log");
 }
 
@@ -201,16 +223,18 @@ static int refused(void) {
 
 /* Opens the session and makes the calls of the log, if there are any. */
 static int take_up(const char *path) {
-    size_t words = 0, room = 0;
+    size_t words = 0, room = 0, row = layout.objects;
     uint64_t *calls = NULL, *answers;
-    char line[LINE], marks[LINE];
+    char line[LINE];
     FILE *in = path ? fopen(path, "r") : NULL;
     while (in && fgets(line, sizeof line, in)) {
         uint64_t call[3] = {ZUNDRAFL_STEP, 0, 0};
+        char *rest = line, *word = next_word(&rest);
         if (words + 3 > room && !(calls = realloc(calls, (room = 2 * room + 3) * sizeof *calls))) fail("too long", path);
-        if (strncmp(line, "yes", 3) == 0) call[0] = ZUNDRAFL_YES;
-        else if (sscanf(line, "no %s", marks) == 1 && read_row(marks, &call[1], &call[2])) call[0] = ZUNDRAFL_NO;
-        else if (strncmp(line, "step", 4) != 0) fail("is no log of this table", path);
+        if (strcmp(word, "yes") == 0 && !*rest) call[0] = ZUNDRAFL_YES;
+        else if (strcmp(word, "no") == 0 && read_named_row(&rest, &call[1], &call[2]) && strlen(rest) <= MOST_NAME) call[0] = ZUNDRAFL_NO;
+        else if (strcmp(word, "step") != 0 || *rest) fail("is no log of this table", path);
+        if (call[0] == ZUNDRAFL_NO && row < ZUNDRAFL_MOST_ROWS) strcpy(object_names[row++], rest);
         memcpy(calls + words, call, sizeof call);
         words += 3;
     }
@@ -229,9 +253,8 @@ static int take_up(const char *path) {
 
 /* One reply to the question; 0 at the end of the replies. */
 static int reply(uint64_t premise, uint64_t conclusion) {
-    char line[LINE], word[LINE] = "", marks[LINE] = "", more[2];
+    char line[LINE], *rest = line, *word;
     uint64_t yes = 0, no = 0;
-    int parts;
     printf(premise ? "Does every row with " : "Does every row");
     if (premise) show_set(stdout, premise);
     printf(" have ");
@@ -239,16 +262,17 @@ static int reply(uint64_t premise, uint64_t conclusion) {
     printf("? ");
     fflush(stdout);
     if (!fgets(line, sizeof line, stdin)) return 0;
-    parts = sscanf(line, "%s %s %1s", word, marks, more);
+    word = next_word(&rest);
     lower(word);
-    if (parts == 1 && (strcmp(word, "yes") == 0 || strcmp(word, "y") == 0)) {
+    if ((strcmp(word, "yes") == 0 || strcmp(word, "y") == 0) && !*rest) {
         zundrafl_accept(&session, rows, ROW_WORDS, list, RULE_WORDS, background, background_words, &answer);
-        if (answer.code == ZUNDRAFL_TAKEN) return write_call("yes", 0, 0), 1;
+        if (answer.code == ZUNDRAFL_TAKEN) return write_call("yes", 0, 0, ""), 1;
         show_sentence(answer.code);
         if (answer.code == ZUNDRAFL_REPLY_CONTRADICTS) explain(answer.first, premise, conclusion);
-    } else if (parts == 2 && (strcmp(word, "no") == 0 || strcmp(word, "n") == 0) && read_row(marks, &yes, &no)) {
+    } else if ((strcmp(word, "no") == 0 || strcmp(word, "n") == 0) && read_named_row(&rest, &yes, &no)) {
+        if (strlen(rest) > MOST_NAME) return fprintf(stderr, "A name has at most %d bytes.\n", MOST_NAME), 1;
         zundrafl_reject(&session, rows, ROW_WORDS, list, RULE_WORDS, background, background_words, yes, no, &answer);
-        if (answer.code == ZUNDRAFL_TAKEN) return write_call("no", yes, no), 1;
+        if (answer.code == ZUNDRAFL_TAKEN) return strcpy(object_names[session.rows - 1], rest), write_call("no", yes, no, rest), 1;
         show_sentence(answer.code);
     } else {
         fprintf(stderr, "Write yes, or no and %zu marks: X yes, . no, ? unknown.\n", layout.attributes);
@@ -256,8 +280,8 @@ static int reply(uint64_t premise, uint64_t conclusion) {
     return 1;
 }
 
-static void show_rules(void) {
-    printf("\n%zu rules, %zu rows%s\n", session.rules, session.rows, answer.code == ZUNDRAFL_FINISHED ? "" : ", not finished");
+static void show_rules(int finished) {
+    printf("\n%zu rules, %zu rows%s\n", session.rules, session.rows, finished ? "" : ", not finished");
     for (size_t i = 0; i < session.rules; i++) {
         show_set(stdout, list[2 * i]);
         printf(" -> ");
@@ -266,13 +290,34 @@ static void show_rules(void) {
     }
 }
 
+/* Writes the table with the counterexamples in it; 0 where that is refused. */
+static int save(const char *path) {
+    static uint8_t names[sizeof file + sizeof object_names], text[ZUNDRAFL_MOST_BYTES];
+    size_t length = layout.attribute_names - layout.object_names;
+    FILE *out;
+    memcpy(names, file + layout.object_names, length);
+    for (size_t i = layout.objects; i < session.rows; i++) {
+        char *name = (char *)names + length;
+        length += (size_t)(object_names[i][0] ? sprintf(name, "%s\n", object_names[i]) : sprintf(name, "row %zu\n", i + 1));
+    }
+    memcpy(names + length, file + layout.attribute_names, bytes - layout.attribute_names);
+    length += bytes - layout.attribute_names;
+    zundrafl_write_table(layout.attributes, session.rows, rows, ROW_WORDS, names, length, text, sizeof text, &answer);
+    if (answer.code != ZUNDRAFL_TAKEN) return 0;
+    out = fopen(path, "wb");
+    if (!out || fwrite(text, 1, answer.first, out) != answer.first || fclose(out) != 0) fail("cannot be written", path);
+    return 1;
+}
+
 int main(int argc, char **argv) {
-    const char *table = NULL, *rules = NULL, *log = NULL;
+    const char *table = NULL, *rules = NULL, *log = NULL, *saved = NULL;
+    int finished;
     for (int i = 1; i < argc; i++)
         if (strcmp(argv[i], "--help") == 0) return fputs(USAGE, stdout), 0;
     for (int i = 1; i < argc; i++) {
         if (strcmp(argv[i], "--background") == 0 && i + 1 < argc) rules = argv[++i];
         else if (strcmp(argv[i], "--log") == 0 && i + 1 < argc) log = argv[++i];
+        else if (strcmp(argv[i], "--save") == 0 && i + 1 < argc) saved = argv[++i];
         else if (argv[i][0] != '-' && !table) table = argv[i];
         else return fputs(USAGE, stderr), 2;
     }
@@ -284,9 +329,11 @@ int main(int argc, char **argv) {
         zundrafl_step(&session, rows, ROW_WORDS, list, RULE_WORDS, background, background_words, &answer);
         if (zundrafl_is_refusal(&answer)) return refused();
         if (answer.code == ZUNDRAFL_FINISHED) break;
-        if (answer.code == ZUNDRAFL_MOVED) write_call("step", 0, 0);
+        if (answer.code == ZUNDRAFL_MOVED) write_call("step", 0, 0, "");
         else if (!reply(answer.first, answer.second)) break;
     }
-    show_rules();
-    return answer.code == ZUNDRAFL_FINISHED ? 0 : 1;
+    finished = answer.code == ZUNDRAFL_FINISHED;
+    show_rules(finished);
+    if (saved && !save(saved)) return refused();
+    return finished ? 0 : 1;
 }

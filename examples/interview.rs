@@ -17,13 +17,15 @@ use zundrafl::*;
 
 const ROW_WORDS: usize = 2 * MOST_ROWS;
 const RULE_WORDS: usize = 2 * MOST_RULES;
+const MOST_NAME: usize = 80;
 
 const USAGE: &str = "\
-usage: interview [--background FILE] [--log FILE] TABLE
+usage: interview [--background FILE] [--log FILE] [--save FILE] TABLE
   TABLE       a table in Burmeister's layout; X yes, . no, ? unknown
   background  rules that hold from the start, one a line: has fur, flies -> breathes air
   log         the interview so far is taken up from it, and written to it as it goes
-Answer a question with yes (y), or with no (n) and a row of marks that refutes it.
+  save        the table with the rows of your replies is written to it at the end
+Answer a question with yes (y), or with no (n) and a row of marks that refutes it; behind the marks the row may get a name.
 ";
 
 /// Why an interview cannot go on: what to say, and the exit status.
@@ -41,14 +43,31 @@ fn sentence(number: u64) -> String {
     format!("Refused with {number}. {}\n", String::from_utf8_lossy(&words[..length]))
 }
 
+fn white(byte: &u8) -> bool {
+    b" \t\n\x0b\x0c\r".contains(byte)
+}
+
+/// The first word of a text and what stands behind it, without the white space around them.
+fn first_word(text: &[u8]) -> (&[u8], &[u8]) {
+    let start = text.iter().position(|b| !white(b)).unwrap_or(text.len());
+    let end = text.iter().rposition(|b| !white(b)).map_or(start, |last| last + 1);
+    let text = &text[start..end];
+    let (word, rest) = text.split_at(text.iter().position(white).unwrap_or(text.len()));
+    (word, &rest[rest.iter().position(|b| !white(b)).unwrap_or(0)..])
+}
+
 /// A table file and the session over it, with the words that are lent to every call.
 struct Interview {
+    file: Vec<u8>,
+    layout: Layout,
     session: Session,
     rows: Vec<u64>,
     list: Vec<u64>,
     background: Vec<u64>,
     objects: Vec<String>,
     attributes: Vec<String>,
+    /// The names of the counterexamples, empty for one without a name.
+    filed: Vec<Vec<u8>>,
 }
 
 impl Interview {
@@ -78,7 +97,8 @@ impl Interview {
             name(&a)
         };
         let attributes = (0..layout.attributes).map(&mut attribute).collect();
-        Ok(Interview { session: Session::default(), rows, list: vec![0; RULE_WORDS], background: Vec::new(), objects, attributes })
+        let (session, list) = (Session::default(), vec![0; RULE_WORDS]);
+        Ok(Interview { file, layout, session, rows, list, background: Vec::new(), objects, attributes, filed: Vec::new() })
     }
 
     /// Rules that hold from the start, one a line.
@@ -100,11 +120,15 @@ impl Interview {
     /// Opens the session and makes the calls of the log, if there are any.
     fn take_up(&mut self, path: Option<&str>) -> Result<Option<File>, Stop> {
         let mut calls = Vec::new();
-        for line in path.and_then(|path| fs::read_to_string(path).ok()).unwrap_or_default().lines() {
-            let call = match line.split_whitespace().collect::<Vec<_>>()[..] {
-                ["step"] => Some([STEP, 0, 0]),
-                ["yes"] => Some([YES, 0, 0]),
-                ["no", marks] => self.row(marks).map(|(yes, no)| [NO, yes, no]),
+        let log = path.and_then(|path| fs::read(path).ok()).unwrap_or_default();
+        for line in log.split_inclusive(|b| *b == b'\n') {
+            let call = match first_word(line) {
+                (b"step", b"") => Some([STEP, 0, 0]),
+                (b"yes", b"") => Some([YES, 0, 0]),
+                (b"no", row) => self.named_row(row).filter(|(_, name)| name.len() <= MOST_NAME).map(|((yes, no), name)| {
+                    self.filed.push(name.to_vec());
+                    [NO, yes, no]
+                }),
                 _ => None,
             };
             calls.extend(call.ok_or_else(|| wrong("is no log of this table", path.unwrap_or_default()))?);
@@ -156,12 +180,18 @@ impl Interview {
     }
 
     /// A row as the table file writes it: X yes, . no, ? unknown.
-    fn row(&self, marks: &str) -> Option<(u64, u64)> {
-        if marks.len() != self.attributes.len() || !marks.bytes().all(|b| b"Xx.?".contains(&b)) {
+    fn row(&self, marks: &[u8]) -> Option<(u64, u64)> {
+        if marks.len() != self.attributes.len() || !marks.iter().all(|b| b"Xx.?".contains(b)) {
             return None;
         }
-        let pick = |wanted: &[u8]| marks.bytes().enumerate().filter(|(_, b)| wanted.contains(b)).fold(0, |w, (i, _)| w | 1u64 << i);
+        let pick = |wanted: &[u8]| marks.iter().enumerate().filter(|(_, b)| wanted.contains(b)).fold(0, |w, (i, _)| w | 1u64 << i);
         Some((pick(b"Xx"), pick(b".")))
+    }
+
+    /// A row, and behind it its name or nothing; a carriage return would end the name's line.
+    fn named_row<'a>(&self, text: &'a [u8]) -> Option<((u64, u64), &'a [u8])> {
+        let (marks, name) = first_word(text);
+        Some((self.row(marks)?, name)).filter(|(_, name)| !name.contains(&b'\r'))
     }
 
     fn marks(&self, yes: u64, no: u64) -> String {
@@ -169,10 +199,12 @@ impl Interview {
     }
 
     fn row_name(&self, row: usize) -> String {
-        match self.objects.get(row) {
-            Some(name) => format!("row {} ({name})", row + 1),
-            None => format!("row {} (the {}. of your counterexamples)", row + 1, row + 1 - self.objects.len()),
-        }
+        let name = match row.checked_sub(self.objects.len()) {
+            None => self.objects[row].clone(),
+            Some(filed) if self.filed[filed].is_empty() => format!("the {}. of your counterexamples", filed + 1),
+            Some(filed) => String::from_utf8_lossy(&self.filed[filed]).into_owned(),
+        };
+        format!("row {} ({name})", row + 1)
     }
 
     /// The closure of a set under the rules in force and one rule more.
@@ -216,41 +248,63 @@ impl Interview {
     }
 
     /// One reply to the question: the call for the log where it was taken, else what to say.
-    fn reply(&mut self, line: &str, rule: [u64; 2]) -> Result<String, String> {
-        let words: Vec<_> = line.split_whitespace().collect();
-        let said = words.first().map(|word| word.to_lowercase()).unwrap_or_default();
-        match (said.as_str(), &words[..]) {
-            ("yes" | "y", [_]) => match self.accept() {
-                a if a.code == TAKEN => Ok("yes".to_string()),
+    fn reply(&mut self, line: &[u8], rule: [u64; 2]) -> Result<Vec<u8>, String> {
+        let (said, rest) = first_word(line);
+        match (said.to_ascii_lowercase().as_slice(), rest, self.named_row(rest)) {
+            (b"yes" | b"y", b"", _) => match self.accept() {
+                a if a.code == TAKEN => Ok(b"yes".to_vec()),
                 a if a.code == REPLY_CONTRADICTS => Err(sentence(a.code) + &self.explained(a.first as usize, rule)),
                 a => Err(sentence(a.code)),
             },
-            ("no" | "n", [_, marks]) if self.row(marks).is_some() => {
-                let (yes, no) = self.row(marks).unwrap_or_default();
+            (b"no" | b"n", _, Some((_, name))) if name.len() > MOST_NAME => Err(format!("A name has at most {MOST_NAME} bytes.\n")),
+            (b"no" | b"n", _, Some(((yes, no), name))) => {
                 let a = self.reject(yes, no);
-                if a.code == TAKEN { Ok(format!("no {}", self.marks(yes, no))) } else { Err(sentence(a.code)) }
+                if a.code != TAKEN {
+                    return Err(sentence(a.code));
+                }
+                self.filed.push(name.to_vec());
+                let between = if name.is_empty() { "" } else { " " };
+                Ok([b"no ", self.marks(yes, no).as_bytes(), between.as_bytes(), name].concat())
             }
             _ => Err(format!("Write yes, or no and {} marks: X yes, . no, ? unknown.\n", self.attributes.len())),
         }
     }
+
+    /// Writes the table with the counterexamples in it.
+    fn save(&self, path: &str) -> Result<(), Stop> {
+        let Layout { object_names, attribute_names, .. } = self.layout;
+        let mut names = self.file[object_names..attribute_names].to_vec();
+        for (name, number) in self.filed.iter().zip(self.objects.len() + 1..) {
+            names.extend(if name.is_empty() { format!("row {number}").into_bytes() } else { name.clone() });
+            names.push(b'\n');
+        }
+        names.extend(&self.file[attribute_names..]);
+        let (mut text, mut a) = (vec![0; MOST_BYTES], Answer::default());
+        let ((m, m_len), (o, o_len)) = ((names.as_ptr(), names.len()), (text.as_mut_ptr(), text.len()));
+        unsafe { zundrafl_write_table(self.session.n, self.session.rows, self.rows.as_ptr(), ROW_WORDS, m, m_len, o, o_len, &mut a) };
+        if a.code != TAKEN {
+            return Err(self.refused(a));
+        }
+        fs::write(path, &text[..a.first as usize]).map_err(|_| wrong("cannot be written", path))
+    }
 }
 
-fn write_call(record: &mut Option<File>, call: &str) -> Result<(), Stop> {
-    record.as_mut().map_or(Ok(()), |file| writeln!(file, "{call}")).map_err(|_| wrong("cannot be written", "the log"))
+fn write_call(record: &mut Option<File>, call: &[u8]) -> Result<(), Stop> {
+    record.as_mut().map_or(Ok(()), |file| file.write_all(&[call, b"\n"].concat())).map_err(|_| wrong("cannot be written", "the log"))
 }
 
-fn hold(table: &str, rules: Option<&str>, log: Option<&str>) -> Result<bool, Stop> {
-    let mut it = Interview::read(table)?;
-    if let Some(path) = rules {
+fn hold(files: &Files) -> Result<bool, Stop> {
+    let mut it = Interview::read(&files.table)?;
+    if let Some(path) = &files.rules {
         it.read_background(path)?;
     }
-    let mut record = it.take_up(log)?;
-    let mut lines = io::stdin().lock().lines();
+    let mut record = it.take_up(files.log.as_deref())?;
+    let mut lines = io::stdin().lock().split(b'\n');
     let finished = loop {
         let a = it.step();
         match a.code {
             FINISHED => break true,
-            MOVED => write_call(&mut record, "step")?,
+            MOVED => write_call(&mut record, b"step")?,
             ASKED => {
                 let with = if a.first == 0 { String::new() } else { format!(" with {}", it.named(a.first)) };
                 print!("Does every row{with} have {}? ", it.named(a.second));
@@ -268,22 +322,34 @@ fn hold(table: &str, rules: Option<&str>, log: Option<&str>) -> Result<bool, Sto
     for rule in it.list[..2 * it.session.rules].chunks(2) {
         println!("{} -> {}", it.named(rule[0]), it.named(rule[1]));
     }
+    if let Some(path) = &files.save {
+        it.save(path)?;
+    }
     Ok(finished)
 }
 
-/// The table, the background and the log of the command line; nothing where it is wrong.
-fn arguments() -> Option<(String, Option<String>, Option<String>)> {
-    let (mut table, mut rules, mut log) = (None, None, None);
+/// The files of the command line.
+struct Files {
+    table: String,
+    rules: Option<String>,
+    log: Option<String>,
+    save: Option<String>,
+}
+
+/// What the command line names; nothing where it is wrong.
+fn arguments() -> Option<Files> {
+    let (mut table, mut rules, mut log, mut save) = (None, None, None, None);
     let mut args = std::env::args().skip(1);
     while let Some(arg) = args.next() {
         match arg.as_str() {
             "--background" => rules = Some(args.next()?),
             "--log" => log = Some(args.next()?),
+            "--save" => save = Some(args.next()?),
             _ if !arg.starts_with('-') && table.is_none() => table = Some(arg),
             _ => return None,
         }
     }
-    Some((table?, rules, log))
+    Some(Files { table: table?, rules, log, save })
 }
 
 fn main() -> ExitCode {
@@ -291,11 +357,11 @@ fn main() -> ExitCode {
         print!("{USAGE}");
         return ExitCode::SUCCESS;
     }
-    let Some((table, rules, log)) = arguments() else {
+    let Some(files) = arguments() else {
         eprint!("{USAGE}");
         return ExitCode::from(2);
     };
-    match hold(&table, rules.as_deref(), log.as_deref()) {
+    match hold(&files) {
         Ok(finished) => ExitCode::from(u8::from(!finished)),
         Err(Stop(what, status)) => {
             eprint!("{what}");

@@ -23,7 +23,7 @@
 extern "C" {
 #endif
 
-enum { ZUNDRAFL_VERSION_MAJOR = 1, ZUNDRAFL_VERSION_MINOR = 0 }; /* minor: something was added; major: something was changed */
+enum { ZUNDRAFL_VERSION_MAJOR = 1, ZUNDRAFL_VERSION_MINOR = 1 }; /* minor: something was added; major: something was changed */
 
 enum {
     ZUNDRAFL_MOST_ATTRIBUTES = 64,
@@ -54,7 +54,8 @@ enum {
     ZUNDRAFL_BAD_NAME = 26,
     ZUNDRAFL_BAD_MARKS = 27,
     ZUNDRAFL_NOT_AT_END = 28,       /* a line after the last one needed is not empty */
-    ZUNDRAFL_MARK_UNKNOWN = 29      /* in a table that has to be complete */
+    ZUNDRAFL_MARK_UNKNOWN = 29,     /* in a table that has to be complete */
+    ZUNDRAFL_TEXT_TOO_LONG = 30     /* the text to write is longer than 65,535 bytes or than the output */
 };
 
 /* codes of answers that are no refusals, 100 and above */
@@ -62,7 +63,7 @@ enum {
     ZUNDRAFL_FINISHED = 100,
     ZUNDRAFL_MOVED = 101,
     ZUNDRAFL_ASKED = 102,    /* premise, conclusion */
-    ZUNDRAFL_TAKEN = 103,    /* an accepted opening or reply, a log that was made, a table that was read */
+    ZUNDRAFL_TAKEN = 103,    /* an accepted opening or reply, a log that was made, a table that was read or written */
     ZUNDRAFL_FOLLOWS = 104,  /* 1 or 0 */
     ZUNDRAFL_REFUTED = 105,  /* the lowest row that refutes */
     ZUNDRAFL_UNREFUTED = 106,
@@ -165,6 +166,17 @@ void zundrafl_read_marks(const zundrafl_layout *layout, const uint8_t *file, siz
  * names once. */
 void zundrafl_object_name(const zundrafl_layout *layout, const uint8_t *file, size_t bytes, size_t number, zundrafl_answer *answer);
 void zundrafl_attribute_name(const zundrafl_layout *layout, const uint8_t *file, size_t bytes, size_t number, zundrafl_answer *answer);
+
+/* Writes n attributes and the first `used` rows with their names as a table file at the start of the output: TAKEN with its number of
+ * bytes; bytes behind it are kept. The title is empty, counts have no leading zeros, marks are X . ? and every line is closed by a line
+ * feed. Opening it finds the same rows and names. The names are lent as lines, those of the rows, then those of the attributes; lines
+ * past the last name are not read, so that a file's own may be lent from where they stand: file + layout.object_names, bytes -
+ * layout.object_names. Output of 65,535 bytes has room for every text that can be written.
+ * 1 n is not 1 to 64; 2 the number of words is odd or above 1,024; 3 more rows in use than words for them; 4 a row in use has an attribute
+ * outside the n; 5 row `place` in use marks an attribute both ways; 26 a name is missing, empty or over 80 bytes, `place` is its offset in
+ * the names, for a missing one their length; 30 the text is longer than 65,535 bytes or than the output. */
+void zundrafl_write_table(size_t n, size_t used, const uint64_t *rows, size_t row_words, const uint8_t *names, size_t name_bytes, uint8_t *out,
+                          size_t bytes, zundrafl_answer *answer);
 
 #ifdef __cplusplus
 }

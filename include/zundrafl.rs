@@ -3,7 +3,7 @@
 #![allow(dead_code)]
 
 pub const VERSION_MAJOR: u32 = 1;
-pub const VERSION_MINOR: u32 = 0;
+pub const VERSION_MINOR: u32 = 1;
 
 pub const MOST_ATTRIBUTES: usize = 64;
 pub const MOST_ROWS: usize = 512;
@@ -31,6 +31,7 @@ pub const BAD_NAME: u64 = 26;
 pub const BAD_MARKS: u64 = 27;
 pub const NOT_AT_END: u64 = 28;
 pub const MARK_UNKNOWN: u64 = 29;
+pub const TEXT_TOO_LONG: u64 = 30;
 
 pub const FINISHED: u64 = 100;
 pub const MOVED: u64 = 101;
@@ -193,4 +194,15 @@ unsafe extern "C" {
     );
     pub fn zundrafl_object_name(layout: *const Layout, file: *const u8, bytes: usize, number: usize, answer: *mut Answer);
     pub fn zundrafl_attribute_name(layout: *const Layout, file: *const u8, bytes: usize, number: usize, answer: *mut Answer);
+    pub fn zundrafl_write_table(
+        n: usize,
+        used: usize,
+        rows: *const u64,
+        row_words: usize,
+        names: *const u8,
+        name_bytes: usize,
+        out: *mut u8,
+        bytes: usize,
+        answer: *mut Answer,
+    );
 }

@@ -1,4 +1,5 @@
-//! The session calls of the library against those of the model, timed in turn in one run.
+//! The session calls of the library, and the one that writes a table, against those of the model, timed in turn in one
+//! run.
 //!
 //! `calls_bench [SEED]` prints the median nanoseconds of a call and the ratio of library to model.
 
@@ -6,15 +7,22 @@
 mod library;
 #[path = "model/machine.rs"]
 mod machine;
+#[path = "model/opened.rs"]
+#[allow(dead_code)]
+mod opened;
 mod random;
 #[path = "model/sets.rs"]
 mod sets;
+#[path = "model/table.rs"]
+#[allow(dead_code)]
+mod table;
 
 use std::hint::black_box;
 use std::time::{Duration, Instant};
 
 use library::{
-    zundrafl_accept, zundrafl_follows, zundrafl_open_session, zundrafl_refuted, zundrafl_reject, zundrafl_replay, zundrafl_step,
+    zundrafl_accept, zundrafl_follows, zundrafl_open_session, zundrafl_refuted, zundrafl_reject, zundrafl_replay,
+    zundrafl_step, zundrafl_write_table,
 };
 use machine::{ACCEPTED, ASKED, Answer, FOLLOWS, MOVED, Record, UNREFUTED};
 use random::Random;
@@ -38,6 +46,10 @@ struct State {
     rows: Vec<u64>,
     list: Vec<u64>,
     background: Vec<u64>,
+    /// Of the rows and the properties, as lines of ten bytes.
+    names: Vec<u8>,
+    /// Where a table file is written.
+    out: Vec<u8>,
 }
 
 #[derive(Clone, Copy)]
@@ -50,6 +62,7 @@ enum Call {
     Refuted(Pair),
     /// A log with the one call whether a rule follows.
     Replay(Pair),
+    Write,
 }
 
 fn log(rule: Pair) -> [u64; 3] {
@@ -57,7 +70,7 @@ fn log(rule: Pair) -> [u64; 3] {
 }
 
 fn by_model(state: &mut State, call: Call) -> Answer {
-    let State { record, rows, list, background } = state;
+    let State { record, rows, list, background, names, out } = state;
     match call {
         Call::Open => machine::open(record, record.n, record.rows, rows, list, background),
         Call::Step => machine::step(record, rows, list, background),
@@ -66,16 +79,18 @@ fn by_model(state: &mut State, call: Call) -> Answer {
         Call::Follows(rule) => machine::follows(record, rows, list, background, rule),
         Call::Refuted(rule) => machine::refuted(record, rows, list, background, rule),
         Call::Replay(rule) => machine::replay(record, rows, list, background, &log(rule), &mut [0; 3]),
+        Call::Write => opened::write_table(record.n, record.rows, rows, names, out),
     }
 }
 
 fn by_library(state: &mut State, call: Call) -> Answer {
-    let State { record, rows, list, background } = state;
+    let State { record, rows, list, background, names, out } = state;
     let mut answer = Answer::new(0, 0, 0);
     let (n, used) = (record.n, record.rows);
     let (s, a) = ((&raw mut *record).cast(), (&raw mut answer).cast());
     let ((r, r_len), (l, l_len)) = ((rows.as_mut_ptr(), rows.len()), (list.as_mut_ptr(), list.len()));
     let (b, b_len) = (background.as_ptr(), background.len());
+    let ((m, m_len), (o, o_len)) = ((names.as_ptr(), names.len()), (out.as_mut_ptr(), out.len()));
     // SAFETY: each pointer leads to as many elements as its length says, and all of them outlive the call.
     unsafe {
         match call {
@@ -94,6 +109,7 @@ fn by_library(state: &mut State, call: Call) -> Answer {
                 let (c, w) = (calls.as_ptr(), answers.as_mut_ptr());
                 zundrafl_replay(s, r, r_len, l, l_len, b, b_len, c, calls.len(), w, answers.len(), a)
             }
+            Call::Write => zundrafl_write_table(n, used, r, r_len, m, m_len, o, o_len, a),
         }
     }
     answer
@@ -122,8 +138,14 @@ fn middle(random: &mut Random, n: usize, rows: usize, rules: usize) -> (State, V
         }
     }
     let record = Record { n, rows, rules, current: 0 };
-    let state =
-        State { record, rows: words(&table), list: [words(&list), random.words(2)].concat(), background: vec![] };
+    let state = State {
+        record,
+        rows: words(&table),
+        list: [words(&list), random.words(2)].concat(),
+        background: vec![],
+        names: (0..rows + n).flat_map(|i| format!("name {i:05}\n").into_bytes()).collect(),
+        out: vec![0; table::MAX_BYTES],
+    };
     (state, table)
 }
 
@@ -160,7 +182,8 @@ fn calls(random: &mut Random, n: usize, rows: usize, rules: usize) -> Vec<(&'sta
         ("no", one_free, Call::No((premise, all & !premise)), ACCEPTED),
         ("follows", moving.clone(), Call::Follows(rule), FOLLOWS),
         ("refuted", moving.clone(), Call::Refuted((all, all)), UNREFUTED),
-        ("replay", moving, Call::Replay(rule), ACCEPTED),
+        ("replay", moving.clone(), Call::Replay(rule), ACCEPTED),
+        ("write", moving, Call::Write, ACCEPTED),
     ]
 }
 

@@ -25,8 +25,8 @@ def refused(number):
     return f"Refused with {number}. {SENTENCES[number]}\n"
 
 
-def table(rows, properties, marks, head="B\ntitle\n"):
-    return head + f"{len(rows)}\n{len(properties)}\n\n" + "".join(line + "\n" for line in rows + properties + marks)
+def table(rows, properties, marks, title="title"):
+    return f"B\n{title}\n{len(rows)}\n{len(properties)}\n\n" + "".join(line + "\n" for line in rows + properties + marks)
 
 
 class Runs:
@@ -41,7 +41,8 @@ class Runs:
 
     def run(self, arguments, replies, status, out=None, err=None, part=None):
         """One run; `out` is how standard output ends, `err` all of standard error, `part` a part of it."""
-        done = subprocess.run([self.program, *arguments], input=replies.encode(), capture_output=True)
+        replies = replies if isinstance(replies, bytes) else replies.encode()
+        done = subprocess.run([self.program, *arguments], input=replies, capture_output=True)
         said, wrong = done.stdout.decode(), done.stderr.decode()
         fine = done.returncode == status
         fine = fine and (out is None or said.endswith(out)) and (err is None or wrong == err) and (part is None or part in wrong)
@@ -50,11 +51,27 @@ class Runs:
         self.count += 1
         return said
 
+    def save(self, arguments, replies, status, wanted, out=None, err=None):
+        """One run that saves the table `wanted`; what was saved is read again, and saved once more with the same bytes."""
+        saved, again = os.path.join(self.folder, "saved"), os.path.join(self.folder, "again")
+        said = self.run([*arguments, "--save", saved], replies, status, out=out, err=err)
+        self.run([saved, "--save", again], "", 1, err="")
+        for path in [saved, again]:
+            self.holds(path, wanted)
+            os.remove(path)
+        return said
+
+    def holds(self, path, wanted):
+        with open(path, "rb") as text:
+            text = text.read()
+        if text != (wanted if isinstance(wanted, bytes) else wanted.encode()):
+            sys.exit(f"{self.program}: {path} has {text!r}, wanted {wanted!r}")
+
 
 def uses(runs):
     usage = runs.run(["--help"], "", 0, err="")
     assert usage.startswith("usage: interview ")
-    for arguments in [[], ["--log"], ["--color", PETS], [PETS, PETS], [PETS, "--background"]]:
+    for arguments in [[], ["--log"], ["--save"], ["--color", PETS], [PETS, PETS], [PETS, "--background"]]:
         runs.run(arguments, "", 2, out="", err=usage)
     runs.run(["nowhere"], "", 2, err="nowhere: cannot be read\n")
     runs.run([PETS, "--background", "nowhere"], "", 2, err="nowhere: cannot be read\n")
@@ -124,11 +141,95 @@ def refusals(runs):
     runs.run([many], "yes\n" * 257, 1, err=refused(12))
 
 
+def saves(runs):
+    with open("tests/interview.replies") as replies, open("tests/interview.list") as wanted:
+        replies, wanted = replies.read(), wanted.read()
+    with open(PETS) as pets:
+        pets = pets.read()
+    filed = ["..X.", "X..X", "..XX", ".XXX", "X.XX", "XX.X"]
+
+    def saved(*given, marks=filed):
+        """The table with some rows more, each with its name or the one that it gets."""
+        rows = ["cat", "parrot", "goldfish"] + [name or f"row {number}" for number, name in enumerate(given, 4)]
+        properties = ["has fur", "flies", "swims", "breathes air"]
+        return table(rows, properties, ["X?.X", ".X.X", "..X?", *marks[:len(given)]], title="")
+
+    def named(given):
+        """The replies with names, and with white space around them."""
+        text = replies
+        for marks, name in zip(filed, given):
+            text = text.replace(f"no {marks}\n", f" N\t{marks}  {name} \t\r\n", 1)
+        return text
+
+    said = runs.save([PETS], replies, 0, saved(*[""] * 6), out=wanted)
+    names = ["shark", "guinea  pig", "X..X", "no", "\u00e9" * 40, "n" * 80]
+    mixed = ["", "yes", "", "", "bat", ""]
+    for given in [names, mixed]:
+        assert runs.save([PETS], named(given), 0, saved(*given), out=wanted) == said
+    for end in ["\r\n", "\r"]:
+        path = runs.path("ended", pets.replace("\n", end))
+        runs.save([path], named(mixed), 0, saved(*mixed), out=wanted)
+        runs.save([path], "", 1, saved())
+        runs.save([runs.path("open", pets.rstrip("\n").replace("\n", end))], "no ..X. shark", 1, saved("shark"))
+        runs.save([runs.path("more", pets.replace("\n", end) + end * 3)], "no ..X.", 1, saved(""))
+    runs.save([PETS], "no ???. unsure\n", 1, saved("unsure", marks=["???."]), err="")
+    runs.save([runs.path("none", table([], ["p", "q"], []))], "", 1, table([], ["p", "q"], [], title=""))
+    runs.save([runs.path("none", table([], ["p", "q"], []))], "no .?\n", 1, table(["row 1"], ["p", "q"], [".?"], title=""))
+    long = "A name has at most 80 bytes.\n"
+    runs.save([PETS], "no ..X. " + "n" * 81 + "\nno ..X. " + "\u00e9" * 41 + "\n", 1, saved(), err=long * 2)
+    runs.save([PETS], "no ..X. a\rb\nno ..X.shark\n", 1, saved(), err="Write yes, or no and 4 marks: X yes, . no, ? unknown.\n" * 2)
+
+    # A log keeps the names; one without names is taken as before.
+    lines = named(mixed).splitlines(keepends=True)
+    log = os.path.join(runs.folder, "named-log")
+    runs.save([PETS, "--log", log], "".join(lines[:4]), 1, saved(*mixed[:3]))
+    runs.save([PETS, "--log", log], "".join(lines[4:]), 0, saved(*mixed), out=wanted)
+    runs.save([PETS, "--log", log], "", 0, saved(*mixed), out=wanted, err="")
+    with open(log) as text:
+        text = text.read()
+    assert "no ..X.\n" in text and "no X..X yes\n" in text
+    log = os.path.join(runs.folder, "bytes-log")
+    for given in [b"no ..X. \xe9\xff\n", b""]:
+        runs.save([PETS, "--log", log], given, 1, saved("name").encode().replace(b"name", b"\xe9\xff"), err="")
+    old = runs.path("old-log", "no ..X.\nstep\nno X..X\r\n")
+    runs.save([PETS, "--log", old], "no ..XX seal\n", 1, saved("", "", "seal"), err="")
+    for wrong in [f"no ..X. {'n' * 81}\n", "no ..X. a\rb\n", "yes please\n"]:
+        wrong = runs.path("wrong-log", wrong)
+        runs.run([PETS, "--log", wrong], "", 2, out="", err=f"{wrong}: is no log of this table\n")
+
+    # A counterexample is spoken of by its name.
+    none, rules = runs.path("none", table([], ["a", "b", "c"], [])), runs.path("cases", "a, b -> c\n")
+    for name, shown in [(" early", "early"), ("", "the 1. of your counterexamples")]:
+        why = f"It is row 1 ({shown}): it has a, so by the rules it would have c, which it lacks.\n"
+        runs.run([none, "--background", rules], f"no X?.{name}\nno ...\nyes\nyes\nyes\n", 1, part=refused(11) + why)
+
+    # Over the table itself, and where nothing can be written.
+    path = runs.path("own", pets)
+    runs.run([path, "--save", path], "no ..X.\n", 1, err="")
+    runs.holds(path, saved(""))
+    for path in ["nowhere/saved", "/dev/full"]:
+        runs.run([PETS, "--save", path], replies, 2, out=wanted, part=f"{path}: cannot be written\n")
+    path = os.path.join(runs.folder, "refused")
+    runs.run([runs.path("empty", ""), "--save", path], "", 1, part=refused(22))
+    assert not os.path.exists(path)
+
+    # The longest text, and one byte more: a row of 64 marks and a name of 79 bytes fit.
+    marks = ["?" * 64] * 511
+    letters = 65535 - 65 - 80 - len(table([""] * 511, [""] * 64, marks, title=""))
+    each = ["n" * (letters // 575 + (i < letters % 575)) for i in range(575)]
+    nearly = runs.path("long", table(each[:511], each[511:], marks, title=""))
+    longest = table(each[:511] + ["r" * 79], each[511:], marks + ["." * 64], title="")
+    assert len(longest) == 65535
+    runs.save([nearly], f"no {'.' * 64} {'r' * 79}\n", 1, longest, err="")
+    runs.run([nearly, "--save", path], f"no {'.' * 64} {'r' * 80}\n", 1, out="\n0 rules, 512 rows, not finished\n", err=refused(30))
+    assert not os.path.exists(path)
+
+
 def main():
     for program in sys.argv[1:]:
         with tempfile.TemporaryDirectory() as folder:
             runs = Runs(os.path.abspath(program), folder)
-            for part in [uses, files, interviews, refusals]:
+            for part in [uses, files, interviews, refusals, saves]:
                 part(runs)
             print(f"{program}: {runs.count} runs say what they have to")
 

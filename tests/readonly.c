@@ -1,4 +1,5 @@
-/* A record or a layout in memory that cannot be written: the calls that only read, a step that asks and every refusal leave it alone. */
+/* A record or a layout in memory that cannot be written: the calls that only read, a step that asks and every refusal leave it alone. An
+ * output in such memory: a writing that is refused leaves it alone. */
 #define _DEFAULT_SOURCE
 #include "zundrafl.h"
 #include <stdio.h>
@@ -41,7 +42,9 @@ int main(void)
     zundrafl_open_table(&layout, file, sizeof file - 1, &answer);
     expect("open_table", &answer, ZUNDRAFL_TAKEN);
     zundrafl_layout *kept = locked(&layout, sizeof layout);
-    if (asked == NULL || full == NULL || kept == NULL)
+    static const uint8_t nothing[32];
+    uint8_t *out = locked(nothing, sizeof nothing);
+    if (asked == NULL || full == NULL || kept == NULL || out == NULL)
         return 1;
 
     zundrafl_follows(asked, rows, 4, list, 4, background, 0, 0, 1, &answer);
@@ -72,6 +75,11 @@ int main(void)
     expect("a refused file", &answer, 23);
     zundrafl_read_marks(kept, file, sizeof file - 1, rows, 1, &answer);
     expect("marks into an odd number of words", &answer, 2);
-    printf("records and layouts that cannot be written: %d failures\n", failures);
+    const uint8_t *names = file + layout.object_names;
+    zundrafl_write_table(2, 1, rows, 4, names, sizeof file - 1 - layout.object_names, out, 22, &answer);
+    expect("an output one byte too short", &answer, ZUNDRAFL_TEXT_TOO_LONG);
+    zundrafl_write_table(2, 1, rows, 4, names, 4, out, 32, &answer);
+    expect("a name that is missing", &answer, ZUNDRAFL_BAD_NAME);
+    printf("records, layouts and outputs that cannot be written: %d failures\n", failures);
     return failures != 0;
 }

@@ -1,6 +1,7 @@
-//! Opened tables: the calls that read a table file and look into it (document 01, "The table file").
+//! Opened tables: the calls that read a table file and look into it (document 01, "The table file"), and the one that
+//! writes a table file (request 2/13).
 
-use crate::machine::{ACCEPTED, Answer, MAX_ROW_WORDS};
+use crate::machine::{self, ACCEPTED, Answer, MAX_ROW_WORDS};
 use crate::table::{self, Refusal, Table};
 
 /// The counts and offsets of an opened table.
@@ -80,4 +81,19 @@ pub fn object_name(layout: &Layout, file: &[u8], number: usize) -> Answer {
 
 pub fn attribute_name(layout: &Layout, file: &[u8], number: usize) -> Answer {
     name(layout, file, number, |table| table.property_names)
+}
+
+/// Writes the first `used` rows and the names as a table file at the start of the output.
+pub fn write_table(n: usize, used: usize, rows: &[u64], names: &[u8], out: &mut [u8]) -> Answer {
+    let rows = match machine::rows_in_use(n, used, rows) {
+        Ok(rows) => rows,
+        Err(refusal) => return refusal,
+    };
+    match table::write(n, &rows, names, out.len()) {
+        Ok(text) => {
+            out[..text.len()].copy_from_slice(&text);
+            Answer::new(ACCEPTED, text.len() as u64, 0)
+        }
+        Err(refusal) => refusal.into(),
+    }
 }

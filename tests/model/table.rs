@@ -1,4 +1,5 @@
-//! The table file, read as document 01 says ("The table file", refusals 21 to 29), with the line ends of request 1/13.
+//! The table file, read as document 01 says ("The table file", refusals 21 to 29), with the line ends of request 1/13,
+//! and written as request 2/13 says.
 
 pub const MAX_BYTES: usize = 65_535;
 pub const MAX_ROWS: usize = 512;
@@ -105,6 +106,36 @@ pub fn read(file: &[u8]) -> Result<Table<'_>, Refusal> {
         }
     }
     Ok(Table { properties, row_names, property_names, marks, offsets: [at_rows, at_properties, at_marks] })
+}
+
+/// The first names of those that are lent as lines, `count` of them.
+pub fn lent_names(names: &[u8], count: usize) -> Result<Vec<&[u8]>, Refusal> {
+    Lines { file: names, at: 0, began: 0 }.names(count)
+}
+
+/// The table file of rows over n properties, their words and the names of both in this order; it may have `room` bytes.
+pub fn write(n: usize, rows: &[(u64, u64)], names: &[u8], room: usize) -> Result<Vec<u8>, Refusal> {
+    let names = lent_names(names, rows.len() + n)?;
+    let counts = [rows.len().to_string(), n.to_string()];
+    let head = [b"B".as_slice(), b"", counts[0].as_bytes(), counts[1].as_bytes(), b""];
+    let mark = |(yes, no): (u64, u64), i: usize| match (yes >> i & 1, no >> i & 1) {
+        (1, _) => b'X',
+        (_, 1) => b'.',
+        _ => b'?',
+    };
+    let mut text = vec![];
+    for line in head.into_iter().chain(names) {
+        text.extend(line);
+        text.push(b'\n');
+    }
+    for &row in rows {
+        text.extend((0..n).map(|i| mark(row, i)));
+        text.push(b'\n');
+    }
+    if text.len() > room.min(MAX_BYTES) {
+        return Err(Refusal { number: 30, place: 0 });
+    }
+    Ok(text)
 }
 
 /// The words of a line of marks: yes, then no.

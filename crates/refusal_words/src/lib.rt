@@ -91,7 +91,8 @@ The title, in the second line, is missing or over 80 bytes; or the fifth line is
 A name is missing, empty or over 80 bytes: write a line for each row, then a line for each property.
 A line of marks is missing, has too few or too many, or has a byte other than X, x, . and ?: correct the line.
 Something stands behind the last line of marks: take it away, or correct the counts.
-A mark is unknown, and complete tables are taken only: write X or a dot for it, or ask an expert in an interview.",
+A mark is unknown, and complete tables are taken only: write X or a dot for it, or ask an expert in an interview.
+The text is longer than 65,535 bytes or than the output: lend more bytes, or take fewer rows or shorter names.",
         number,
     )
 }

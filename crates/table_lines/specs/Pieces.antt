@@ -8,6 +8,7 @@ use lib.ListN.{length, take, drop}
 use Rattle.theory.specs.Lists.{All}
 use Rattle.table_lines.specs.Lines.{NoEnd, IsEnd, lineOf}
 pub mod Laws
+pub mod Parts
 
 -- a line: its bytes, and those of its end
 pub record Piece : Type 0 where

@@ -13,6 +13,7 @@ use Rattle.line_walk.specs.declared.Walk.the-variants.{Failed, At}
 use Rattle.line_walk.specs.Walk.{walk}
 pub mod Laws
 pub mod Passed
+pub mod Lines
 
 -- a walk, and then more lines
 abbrev pub walkOn : Walk → List Kind → List ℕ → Walk

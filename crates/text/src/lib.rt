@@ -2,6 +2,7 @@
 // What does not fit is dropped, so that every function is total.
 ghost use mathlib.Core.Path.{_≡_};
 ghost use mathlib.Core.List.{[], _∷_};
+ghost use lib.ListN.{length};
 ghost use Rattle.text.specs.Text.{numberText, markText, setText};
 ghost use Rattle.text.specs.Text.Digits.{Leads};
 ghost use Rattle.text.specs.Page.{Puts};
@@ -77,4 +78,17 @@ pub fn put_number(out: &mut [u8], at: usize, n: u64) -> usize
         power /= 10;
     }
     to
+}
+
+// How many decimal digits a number has.
+pub fn size_of_number(n: u64) -> usize
+    ensures { λ r. ⌜ r ≡ length (numberText n) ⌝ }
+{
+    let mut left = n;
+    let mut size = 1;
+    while 10 <= left {
+        left /= 10;
+        size += 1;
+    }
+    size
 }

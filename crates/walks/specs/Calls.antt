@@ -4,7 +4,8 @@
 --     beside           formulas in a row, and one more
 --     parts, said      what each parameter owns, and what is said of each one's last value.        words-of  but for the first's
 --     apart, apart-shared     what stands at entry, taken apart, where the first struct is lent by `&mut` and by `&`
---     given-back, given-back-shared     what stands at exit, put together.        …-alone     where there is no last struct
+--     given-back, given-back-shared     what stands at exit, put together
+--     …-alone          where there is no last struct.        …-last     where there is no first one
 use mathlib.Core.Path.{refl}
 use Prim.Native.Nat.{ℕ, zero, suc}
 use mathlib.Core.List.{List, [], _∷_}
@@ -94,6 +95,36 @@ module _ {M : Type 1} (𝓤 : URA M) (H : Heap 𝓤) (A : Atoms 𝓤) where
       via 𝓤 (sep 𝓤 ⟦ P ⟧ (sep 𝓤 ⟦ beside Ps ftrue ⟧ ⟦ Q ⟧)) (assoc∗ 𝓤 ⟦ P ⟧ ⟦ beside Ps ftrue ⟧ ⟦ Q ⟧) (monoR 𝓤 ⟦ P ⟧ (last-in Ps Q))
 
 module _ {M : Type 1} {𝓤 : URA M} {H : Heap 𝓤} {A : Atoms 𝓤} {K : Type 0} {W : Given 𝓤 H A} where
+  pub apart-last : K → {Γ : List (Item 𝓤)} {G : Goal 𝓤 H} (R′ : RattleType) (ℓ : Lifetime)
+      (n : ℕ) (κs : Lfts (suc n)) (qs : Shares (suc n)) (Ps : List Fml) (y : RefT (R′ .Denot))
+      → Step K W (‵ (beside Ps ftrue) ∷ raw (toks 𝓤 A n (firsts n κs) (shares n qs)) ∷ ‵ (fobs (y .name) (R′ .coded .code (y .now)))
+      ∷ ‵ (fbor (last n κs) (Body (mem R′) (y .ptr .0) (y .ptr .1) (y .name))) ∷ ‵ (flft (last n κs) (last-share n qs)) ∷ Γ) G
+      (raw (toks 𝓤 A (suc n) κs qs) ∷ ‵ (beside Ps (fsep (MutRef ℓ (last n κs) R′ .own y (ptr-vals y)) ftrue)) ∷ Γ) G
+  apart-last t R′ ℓ n κs qs Ps y = step (λ s.
+      use1 W (raw (toks 𝓤 A n (firsts n κs) (shares n qs)) ⊛ ‵ (flft (last n κs) (last-share n qs))) (last-token 𝓤 H A n κs qs) $
+      split t $ move t (2 ∷ []) $
+      use1 W (‵ (beside Ps ftrue) ⊛ ‵ (MutRef ℓ (last n κs) R′ .own y (ptr-vals y))) (last-out 𝓤 H A Ps (MutRef ℓ (last n κs) R′ .own y (ptr-vals y))) $
+      split t $ move t (1 ∷ []) $ fsplit3 t $ drop t $ move t (2 ∷ 3 ∷ 0 ∷ 1 ∷ []) $ s)
+
+  -- the last struct's part, put behind the words'
+  behind : K → {Γ : List (Item 𝓤)} {G : Goal 𝓤 H} {γ′ : GName} {v′ : Gv} (n : ℕ) (κs : Lfts (suc n)) (qs : Shares (suc n)) (Ps : List Fml)
+      → Step K W (‵ (beside Ps (fsep (fres γ′ v′) ftrue)) ∷ raw (toks 𝓤 A (suc n) κs qs) ∷ Γ) G
+      (‵ (fobs γ′ v′) ∷ ‵ (flft (last n κs) (last-share n qs)) ∷ raw (toks 𝓤 A n (firsts n κs) (shares n qs)) ∷ ‵ (beside Ps ftrue) ∷ Γ) G
+  behind t {γ′ = γ′} {v′ = v′} n κs qs Ps = step (λ s.
+      use1 W (‵ (fres γ′ v′)) (W .names .obs-res γ′ v′) $ move t (3 ∷ 0 ∷ []) $
+      use2 W (‵ (beside Ps (fsep (fres γ′ v′) ftrue))) (last-in 𝓤 H A Ps (fres γ′ v′)) $ move t (2 ∷ 1 ∷ []) $
+      use2 W (raw (toks 𝓤 A (suc n) κs qs)) (token-last 𝓤 H A n κs qs) $ move t (1 ∷ []) $ s)
+
+  pub given-back-last : K → {γ′ : GName} {v′ : Gv} {P′ : Fml} {Y : SProp 𝓤}
+      (n : ℕ) (κs : Lfts (suc n)) (qs : Shares (suc n)) (Ps : List Fml)
+      → Seq K W (‵ (fobs γ′ v′) ∷ ‵ P′ ∷ ‵ (flft (last n κs) (last-share n qs)) ∷ raw (toks 𝓤 A n (firsts n κs) (shares n qs)) ∷ ‵ (beside Ps ftrue)
+      ∷ raw Y ∷ [])
+      (prop (sep 𝓤 (sep 𝓤 (toks 𝓤 A (suc n) κs qs)
+      (sep 𝓤 (sem 𝓤 H A (beside Ps (fsep (fres γ′ v′) ftrue))) (sem 𝓤 H A (feq (List Val) (vunit ∷ []) (vunit ∷ []))))) Y))
+  given-back-last t n κs qs Ps =
+      move t (0 ∷ 2 ∷ 3 ∷ 4 ∷ []) $ behind t n κs qs Ps $ feqI t (List Val) (vunit ∷ []) (vunit ∷ []) refl $ move t (1 ∷ 0 ∷ []) $ join t $
+      move t (1 ∷ 0 ∷ []) $ join t $ frame t $ drop t $ done t
+
   pub apart : K → {Γ : List (Item 𝓤)} {G : Goal 𝓤 H} {κ : Lft} {q : Share} (R R′ : RattleType) (ℓ : Lifetime)
       (n : ℕ) (κs : Lfts (suc n)) (qs : Shares (suc n)) (Ps : List Fml) (x : RefT (R .Denot)) (y : RefT (R′ .Denot))
       → Step K W (‵ (fobs (x .name) (R .coded .code (x .now))) ∷ ‵ (fbor κ (Body (mem R) (x .ptr .0) (x .ptr .1) (x .name))) ∷ ‵ (flft κ q)
@@ -102,11 +133,7 @@ module _ {M : Type 1} {𝓤 : URA M} {H : Heap 𝓤} {A : Atoms 𝓤} {K : Type 
       ((‵ (flft κ q) ⊛ raw (toks 𝓤 A (suc n) κs qs))
       ∷ ‵ (fsep (MutRef (named 0) κ R .own x (ptr-vals x)) (beside Ps (fsep (MutRef ℓ (last n κs) R′ .own y (ptr-vals y)) ftrue))) ∷ Γ) G
   apart t R R′ ℓ n κs qs Ps x y = step (λ s.
-      split t $ move t (1 ∷ []) $
-      use1 W (raw (toks 𝓤 A n (firsts n κs) (shares n qs)) ⊛ ‵ (flft (last n κs) (last-share n qs))) (last-token 𝓤 H A n κs qs) $
-      split t $ move t (3 ∷ []) $ fsplit t $ move t (1 ∷ []) $
-      use1 W (‵ (beside Ps ftrue) ⊛ ‵ (MutRef ℓ (last n κs) R′ .own y (ptr-vals y))) (last-out 𝓤 H A Ps (MutRef ℓ (last n κs) R′ .own y (ptr-vals y))) $
-      split t $ move t (1 ∷ []) $ fsplit3 t $ drop t $ move t (3 ∷ []) $ fsplit3 t $ drop t $ move t (0 ∷ 1 ∷ 7 ∷ 4 ∷ 5 ∷ 2 ∷ 3 ∷ 6 ∷ []) $ s)
+      split t $ move t (2 ∷ []) $ fsplit t $ fsplit3 t $ drop t $ move t (4 ∷ 2 ∷ []) $ apart-last t R′ ℓ n κs qs Ps y $ move t (5 ∷ 6 ∷ 7 ∷ []) $ s)
 
   pub given-back : K → {κ : Lft} {q : Share} {γ γ′ : GName} {v v′ : Gv} {P P′ Q : Fml} {Y : SProp 𝓤}
       (n : ℕ) (κs : Lfts (suc n)) (qs : Shares (suc n)) (Ps : List Fml)
@@ -114,13 +141,10 @@ module _ {M : Type 1} {𝓤 : URA M} {H : Heap 𝓤} {A : Atoms 𝓤} {K : Type 
       ∷ raw (toks 𝓤 A n (firsts n κs) (shares n qs)) ∷ ‵ (fsep Q (beside Ps ftrue)) ∷ raw Y ∷ [])
       (prop (sep 𝓤 (sep 𝓤 (sep 𝓤 (A .lft κ q) (toks 𝓤 A (suc n) κs qs))
       (sep 𝓤 (sem 𝓤 H A (fsep (fres γ v) (beside Ps (fsep (fres γ′ v′) ftrue)))) (sem 𝓤 H A (feq (List Val) (vunit ∷ []) (vunit ∷ []))))) Y))
-  given-back t {κ} {q} {γ} {γ′} {v} {v′} n κs qs Ps =
-      use1 W (‵ (fres γ v)) (W .names .obs-res γ v) $ move t (3 ∷ []) $ use1 W (‵ (fres γ′ v′)) (W .names .obs-res γ′ v′) $
-      move t (7 ∷ []) $ fsplit t $ drop t $
-      use2 W (‵ (beside Ps (fsep (fres γ′ v′) ftrue))) (last-in 𝓤 H A Ps (fres γ′ v′)) $ move t (1 ∷ 0 ∷ []) $ fjoin t $
-      feqI t (List Val) (vunit ∷ []) (vunit ∷ []) refl $ move t (1 ∷ 0 ∷ []) $ join t $
-      move t (5 ∷ 4 ∷ []) $ use2 W (raw (toks 𝓤 A (suc n) κs qs)) (token-last 𝓤 H A n κs qs) $
-      move t (3 ∷ 0 ∷ []) $ join t $ join t $ frame t $ drop t $ drop t $ done t
+  given-back t {γ = γ} {v = v} n κs qs Ps =
+      use1 W (‵ (fres γ v)) (W .names .obs-res γ v) $ move t (7 ∷ []) $ fsplit t $ drop t $ move t (4 ∷ 6 ∷ 7 ∷ 0 ∷ []) $ behind t n κs qs Ps $
+      move t (2 ∷ 0 ∷ []) $ fjoin t $ feqI t (List Val) (vunit ∷ []) (vunit ∷ []) refl $ move t (1 ∷ 0 ∷ []) $ join t $
+      move t (3 ∷ 1 ∷ []) $ join t $ join t $ frame t $ drop t $ drop t $ done t
 
   pub apart-shared : K → {Γ : List (Item 𝓤)} {G : Goal 𝓤 H} {κ : Lft} {q : Share} (R R′ : RattleType) (ℓ : Lifetime)
       (n : ℕ) (κs : Lfts (suc n)) (qs : Shares (suc n)) (Ps : List Fml) (x : RefT (R .Denot)) (y : RefT (R′ .Denot))
@@ -130,11 +154,7 @@ module _ {M : Type 1} {𝓤 : URA M} {H : Heap 𝓤} {A : Atoms 𝓤} {K : Type 
       ((‵ (flft κ q) ⊛ raw (toks 𝓤 A (suc n) κs qs))
       ∷ ‵ (fsep (ShrRef (named 0) κ R .own x (ptr-vals x)) (beside Ps (fsep (MutRef ℓ (last n κs) R′ .own y (ptr-vals y)) ftrue))) ∷ Γ) G
   apart-shared t R R′ ℓ n κs qs Ps x y = step (λ s.
-      split t $ move t (1 ∷ []) $
-      use1 W (raw (toks 𝓤 A n (firsts n κs) (shares n qs)) ⊛ ‵ (flft (last n κs) (last-share n qs))) (last-token 𝓤 H A n κs qs) $
-      split t $ move t (3 ∷ []) $ fsplit t $ move t (1 ∷ []) $
-      use1 W (‵ (beside Ps ftrue) ⊛ ‵ (MutRef ℓ (last n κs) R′ .own y (ptr-vals y))) (last-out 𝓤 H A Ps (MutRef ℓ (last n κs) R′ .own y (ptr-vals y))) $
-      split t $ move t (1 ∷ []) $ fsplit3 t $ drop t $ move t (3 ∷ []) $ fsplit3 t $ drop t $ drop t $ move t (0 ∷ 6 ∷ 3 ∷ 4 ∷ 1 ∷ 2 ∷ 5 ∷ []) $ s)
+      split t $ move t (2 ∷ []) $ fsplit t $ fsplit3 t $ drop t $ drop t $ move t (3 ∷ 1 ∷ []) $ apart-last t R′ ℓ n κs qs Ps y $ move t (5 ∷ 6 ∷ []) $ s)
 
   pub given-back-shared : K → {κ : Lft} {q : Share} {γ′ : GName} {v′ : Gv} {P P′ Q : Fml} {Y : SProp 𝓤}
       (n : ℕ) (κs : Lfts (suc n)) (qs : Shares (suc n)) (Ps : List Fml)
@@ -142,13 +162,10 @@ module _ {M : Type 1} {𝓤 : URA M} {H : Heap 𝓤} {A : Atoms 𝓤} {K : Type 
       ∷ raw (toks 𝓤 A n (firsts n κs) (shares n qs)) ∷ ‵ (fsep Q (beside Ps ftrue)) ∷ raw Y ∷ [])
       (prop (sep 𝓤 (sep 𝓤 (sep 𝓤 (A .lft κ q) (toks 𝓤 A (suc n) κs qs))
       (sep 𝓤 (sem 𝓤 H A (fsep ftrue (beside Ps (fsep (fres γ′ v′) ftrue)))) (sem 𝓤 H A (feq (List Val) (vunit ∷ []) (vunit ∷ []))))) Y))
-  given-back-shared t {κ} {q} {γ′} {v′} n κs qs Ps =
-      move t (2 ∷ []) $ use1 W (‵ (fres γ′ v′)) (W .names .obs-res γ′ v′) $
-      move t (6 ∷ []) $ fsplit t $ drop t $
-      use2 W (‵ (beside Ps (fsep (fres γ′ v′) ftrue))) (last-in 𝓤 H A Ps (fres γ′ v′)) $ nothing t $ fjoin t $
-      feqI t (List Val) (vunit ∷ []) (vunit ∷ []) refl $ move t (1 ∷ 0 ∷ []) $ join t $
-      move t (5 ∷ 4 ∷ []) $ use2 W (raw (toks 𝓤 A (suc n) κs qs)) (token-last 𝓤 H A n κs qs) $
-      move t (2 ∷ 0 ∷ []) $ join t $ join t $ frame t $ drop t $ drop t $ done t
+  given-back-shared t n κs qs Ps =
+      move t (6 ∷ []) $ fsplit t $ drop t $ move t (3 ∷ 5 ∷ 6 ∷ 0 ∷ []) $ behind t n κs qs Ps $
+      nothing t $ fjoin t $ feqI t (List Val) (vunit ∷ []) (vunit ∷ []) refl $ move t (1 ∷ 0 ∷ []) $ join t $
+      move t (2 ∷ 1 ∷ []) $ join t $ join t $ frame t $ drop t $ drop t $ done t
 
   pub apart-alone : K → {Γ : List (Item 𝓤)} {G : Goal 𝓤 H} {κ : Lft} {q : Share} (R : RattleType) (x : RefT (R .Denot)) {P : Fml} {i : Item 𝓤}
       → Step K W (‵ (fobs (x .name) (R .coded .code (x .now))) ∷ ‵ (fbor κ (Body (mem R) (x .ptr .0) (x .ptr .1) (x .name))) ∷ ‵ (flft κ q)

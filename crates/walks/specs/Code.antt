@@ -1,7 +1,7 @@
 -- The locals and statements of the code that is walked.
 use Prim.Native.Nat.{ℕ}
 use mathlib.Core.List.{[], _∷_}
-use mir.Syntax.{Lifetime, Mutability, Local, Opd, Body, named, erased, mut, imm, w8, w64, tyInt, tyBool, tyUnit, tyRef, place, field, deref, copy, rvOpd, addrOf, aggregate, assign, local, valueLocal}
+use mir.Syntax.{Width, Lifetime, Mutability, Local, Opd, Body, named, erased, mut, imm, w8, w64, tyInt, tyBool, tyUnit, tyRef, place, field, deref, copy, rvOpd, addrOf, aggregate, assign, local, valueLocal}
 use denote.Memory.{pointee}
 use denote.Slice.{sliceTy}
 use denote.Struct.Declared.{Declared, row, shape}
@@ -20,14 +20,21 @@ word = local (tyInt w64) valueLocal
 abbrev pub flag : Local
 flag = local tyBool valueLocal
 
+-- a pointer to numbers of a width, and a slice of them
+abbrev pub pointer-to : Width → Local
+pointer-to w = local (tyRef erased mut (tyInt w)) valueLocal
+
+abbrev pub slice-of : Width → Lifetime → Mutability → Local
+slice-of w ℓ m = local (sliceTy (tyRef ℓ m (tyInt w))) valueLocal
+
 abbrev pub pointer : Local
-pointer = local (tyRef erased mut (tyInt w64)) valueLocal
+pointer = pointer-to w64
 
 abbrev pub words : Lifetime → Mutability → Local
-words ℓ m = local (sliceTy (tyRef ℓ m (tyInt w64))) valueLocal
+words = slice-of w64
 
 abbrev pub bytes : Lifetime → Local
-bytes ℓ = local (sliceTy (tyRef ℓ imm (tyInt w8))) valueLocal
+bytes ℓ = slice-of w8 ℓ imm
 
 abbrev pub struct : Declared → Local
 struct D = local (layout (shape D)) valueLocal
@@ -52,8 +59,11 @@ abbrev pub takes-field : ℕ → ℕ → ℕ → Body
 takes-field i j k = assign (place i []) (rvOpd (copy (place j (field k ∷ []))))
 
 -- a slice in local j is lent on: its pointer in local i, then with its count in local s
+abbrev pub takes-address-of : Width → ℕ → ℕ → Body
+takes-address-of w i j = assign (place i []) (addrOf (place j (field 0 ∷ deref (tyInt w) ∷ [])))
+
 abbrev pub takes-address : ℕ → ℕ → Body
-takes-address i j = assign (place i []) (addrOf (place j (field 0 ∷ deref (tyInt w64) ∷ [])))
+takes-address = takes-address-of w64
 
 abbrev pub makes-slice : ℕ → ℕ → ℕ → Body
 makes-slice s i j = assign (place s []) (aggregate (copy (place i []) ∷ copy (place j (field 1 ∷ [])) ∷ []))

@@ -33,6 +33,6 @@ pub use denote.Triple.Walked.{ends-at}
 pub use Rattle.walks.specs.Walks.{all-told, Agreed, Walk, meets, called, learnt, copied, field-of, sets, freed}
 pub use Rattle.session.specs.Choice.{chosen}
 pub use Rattle.walks.specs.Behind.{loads, reads, stores, stores-whole, stores-if}
-pub use Rattle.walks.specs.Calls.{firsts, shares, words-of, parts, said, apart, apart-shared, apart-alone, apart-shared-alone, given-back, given-back-shared, given-back-alone, given-back-shared-alone}
+pub use Rattle.walks.specs.Calls.{firsts, shares, words-of, parts, said, apart, apart-shared, apart-last, apart-alone, apart-shared-alone, given-back, given-back-shared, given-back-last, given-back-alone, given-back-shared-alone}
 pub use Rattle.walks.specs.Lent.{Lendable, Turned, turn, turn-laws, Enumerated, TurnedEnum, enum-turn, enum-turn-laws}
-pub use Rattle.walks.specs.Code.{nothing, variants, lent-struct, struct, words, bytes, word, pointer, flag, whole-of, reads-struct, takes-address, makes-slice, takes-field, stores-field, stores-local}
+pub use Rattle.walks.specs.Code.{nothing, variants, lent-struct, struct, slice-of, words, bytes, word, pointer-to, pointer, flag, whole-of, reads-struct, takes-address-of, takes-address, makes-slice, takes-field, stores-field, stores-local}

@@ -1,9 +1,10 @@
-// The table file for C. A call that only reads takes the layout by `&`; the others store it where it changed.
+// The table file for C. A call that only reads takes the layout by `&`; an opening stores it where it changed; writing needs none.
 ghost use mathlib.Core.Path.{_≡_};
 ghost use Rattle.table_layout.specs.Layout.{openedOf};
 ghost use Rattle.complete_tables.specs.Complete.{openedComplete};
 ghost use Rattle.name_spans.specs.Spans.{objectSpan, attributeSpan};
 ghost use Rattle.coded_tables.specs.Tables.{OpensTableOn, ReadsMarks, codeOfSpan};
+ghost use Rattle.coded_writing.specs.Writing.{WritesCoded};
 
 // Opens a table file: the layout found there, or the given one where it is refused.
 #[no_mangle]
@@ -78,4 +79,20 @@ pub extern "C" fn zundrafl_attribute_name(
     ensures { λ _. ⌜ now (answer .exit) ≡ codeOfSpan (attributeSpan (now (file .entry)) (now (layout .entry)) number) ⌝ }
 {
     *answer = coded_tables::attribute_name(*layout, file, number);
+}
+
+// Writes n attributes, the rows in use of the row words, and the names lent as lines, as a table file into the lent output.
+#[no_mangle]
+pub extern "C" fn zundrafl_write_table(
+    n: usize,
+    used: usize,
+    rows: &[u64],
+    names: &[u8],
+    out: &mut [u8],
+    answer: &mut answer_words::Answer,
+)
+    ensures { λ _. ⌜ WritesCoded n used rows names out (now (answer .exit)) ⌝ }
+{
+    let made = coded_writing::write_table(n, used, rows, names, out);
+    *answer = made;
 }

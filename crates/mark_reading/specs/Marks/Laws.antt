@@ -1,14 +1,17 @@
--- Computed cases (`cases`). The words that are written hold the rows (`rows-held`), and the rows of a part of the file are the file's (`rows-from`).
--- What a reading answers (`reading-bad`, `reading-fine`, `reading-short`, `reading-whole`), and that with row words for all the rows that
--- a session has it answers what the file was opened as (`reading-all`, `complete-reading`, `complete-words`). An opened table is read as
--- its file is just where its layout is the one that reading the file finds (`reading-as`, `reading-other`).
+-- Computed cases (`cases`). The words that are written hold the rows (`rows-held`), and the rows of a part of the file are the file's
+-- (`rows-from`). What a reading answers (`reading-bad`, `reading-fine`, `reading-short`, `reading-whole`), what it says where it finds a
+-- table (`accepts`), and that with row words for all the rows that a session has it answers what the file was opened as (`reading-all`,
+-- `complete-reading`, `complete-words`). An opened table is read as its file is just where its layout is the one that reading the file
+-- finds (`reading-as`, `reading-other`).
 use mathlib.Core.Path.{_≡_, refl, sym, _∙_, ap}
-use mathlib.Core.Bool.{true, false}
+use mathlib.Core.Bool.{Bool, true, false}
 use mathlib.Core.List.{List, [], _∷_, _++_}
 use Prim.Native.Nat.{ℕ, zero, suc, _-_, _≤_, _<_, _+_, _*_, _/_}
 use lib.ListN.{length, drop, take}
-use borrow.Author.Tests.{lt-ltb, le-ltb}
+use lib.Dec.{ltb}
+use borrow.Author.Tests.{ltb-false, lt-ltb, le-ltb}
 use Rattle.table_layout.specs.declared.Opened.the-variants.{Refused, Found}
+use Rattle.session.specs.declared.Refusal.{Refusal}
 use Rattle.session.specs.Refusals.{refusal}
 use Rattle.line_bytes.specs.Everywhere.{everywhere}
 use Rattle.table_counts.specs.Counts.{decimalFrom, isCount, countOf}
@@ -18,6 +21,7 @@ use Rattle.table_layout.specs.Layout.{openedOf, layoutOf}
 use Rattle.line_walk.specs.Walk.{lineFault, walk}
 use Rattle.table_walk.specs.Walk.{rest}
 use native.Mathlib.Nat.{add-zero}
+use native.Mathlib.Omega.{arith}
 use Rattle.table_layout.specs.declared.Layout.{Layout}
 use Rattle.session.specs.Limits.{mostObjects, badLength}
 use Rattle.table_layout.specs.declared.Opened.{Opened}
@@ -77,6 +81,35 @@ module _ (words : ℕ) (l : Layout) where
 
   pub reading-whole : l .objects ≤ words / 2 → readingFrom words (Found l) ≡ Found l
   reading-whole h = rw (readingFrom, le-ltb (words / 2) (l .objects) h)
+
+-- the row words are of a length that can be, with places for the rows, and the file is a table
+pub record Accepts (words : ℕ) (o : Opened) (l : Layout) : Type 0 where
+  pub length-fine : badLength mostObjects words ≡ false
+  pub places : l .objects ≤ words / 2
+  pub opened : o ≡ Found l
+
+pub accepts : (words : ℕ) (o : Opened) (l : Layout) → readingOf words o ≡ Found l → Accepts words o l
+unfolding readingOf
+accepts words o l e = go (badLength mostObjects words) refl e
+  where
+    never : {A : Type 0} {r : Refusal} → Refused r ≡ Found l → A
+    never e = let z : _≡_ {A = ℕ} 0 1 = cc in absurd (omega arith)
+
+    places : badLength mostObjects words ≡ false → (x : Layout) (b : Bool) → ltb (words / 2) (x .objects) ≡ b
+        → elim b as (λ z. Opened) [ true ↦ Refused (refusal 3 0) | false ↦ Found x ] ≡ Found l → Accepts words (Found x) l
+    places f x true t e = never e
+    places f x false t e =
+        let same : x ≡ l = cc in
+        record { length-fine = f; places = rw (sym same) (ltb-false _ _ t); opened = e }
+
+    from : badLength mostObjects words ≡ false → (p : Opened) → readingFrom words p ≡ Found l → Accepts words p l
+    from f (Found x) e = places f x (ltb (words / 2) (x .objects)) refl e
+    from f (Refused r) e = never e
+
+    go : (b : Bool) → badLength mostObjects words ≡ b
+        → elim b as (λ z. Opened) [ true ↦ Refused (refusal 2 0) | false ↦ readingFrom words o ] ≡ Found l → Accepts words o l
+    go true f e = never e
+    go false f e = from f o e
 
 -- with row words for as many rows as a session has, a reading answers what the file was opened as
 pub reading-all : (o : Opened) → ((l : Layout) → o ≡ Found l → l .objects ≤ mostObjects) → readingOf (mostObjects * 2) o ≡ o

@@ -7,14 +7,14 @@ pub sentence-1 : sentence 1 ≡ bytes "The session has no property, or more than
 unfolding bytes joined lineNumber
 sentence-1 = refl
 
-pub sentence-29 : sentence 29 ≡ bytes "A mark is unknown, and complete tables are taken only: write X or a dot for it, or ask an expert in an interview."
+pub sentence-30 : sentence 30 ≡ bytes "The text is longer than 65,535 bytes or than the output: lend more bytes, or take fewer rows or shorter names."
 unfolding bytes joined lineNumber
-sentence-29 = refl
+sentence-30 = refl
 
 pub sentence-13 : sentence 13 ≡ []
 unfolding bytes joined lineNumber
 sentence-13 = refl
 
-pub sentence-30 : sentence 30 ≡ []
+pub sentence-31 : sentence 31 ≡ []
 unfolding bytes joined lineNumber
-sentence-30 = refl
+sentence-31 = refl

@@ -111,6 +111,14 @@ pieces-lines file = go (length file) file (omega arith)
         let e = from-whole k (drop s (b ∷ bs)) l in
         (no-end-byte (b ∷ bs), rw e (ended-first b bs), go k (drop s (b ∷ bs)) l)
 
+-- so no line has a byte of an end
+pub lines-no-end : (file : List ℕ) → All (All NoEnd) (linesOf file)
+lines-no-end file = go (pieces file) (pieces-lines file)
+  where
+    go : (ps : List Piece) → AreLines ps → All (All NoEnd) (withoutEnds ps)
+    go [] a = all-nil _
+    go (p ∷ ps) a = all-cons (a .0) (go ps (a .2))
+
 -- ---- and nothing else is
 
 -- a line with its end, before other bytes, is the first piece

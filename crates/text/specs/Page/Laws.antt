@@ -5,8 +5,8 @@ use mathlib.Core.List.{List, [], _∷_, _++_, append-nil, append-assoc}
 use Prim.Native.Nat.{ℕ, _+_, _<_, _≤_}
 use native.Mathlib.Omega.{arith}
 use native.Mathlib.Numerals.{add-one}
-use lib.ListN.{length, set, take, length-set}
-use lib.Seq.{take-suc-set}
+use lib.ListN.{length, set, take, drop, length-set, take-append-drop}
+use lib.Seq.{take-suc-set, drop-set-lt}
 use lib.Dec.{ltb}
 use borrow.Author.Tests.{lt-ltb, le-ltb, ltb-true}
 use Rattle.text.specs.Page.{Page, page, put, text}
@@ -111,3 +111,28 @@ text-inside p (b ∷ bs) h =
     let o = put-on p b h in
     let t = text-inside (put p b) bs (omega (arith, o .1, l)) in
     (omega (arith, o .0, t .0), omega (arith, t .1, l))
+
+-- a text that fits leaves the bytes behind it
+text-past : (p : Page) (bs : List ℕ) → p .at + length bs ≤ length (p .bytes)
+    → drop (p .at + length bs) (text p bs .bytes) ≡ drop (p .at + length bs) (p .bytes)
+unfolding text
+text-past p [] h = refl
+text-past p (b ∷ bs) h =
+    let q = page (set (p .bytes) (p .at) b) (p .at + 1) in
+    let r : q .at + length bs ≤ length (q .bytes) = omega (arith, length-set (p .bytes) (p .at) b) in
+    let k : p .at + length (b ∷ bs) ≡ q .at + length bs = omega arith in
+    ap (λ (s : Page). drop (p .at + length (b ∷ bs)) (text s bs .bytes)) (put-in p b (omega arith))
+    ∙ ap (λ (j : ℕ). drop j (text q bs .bytes)) k ∙ text-past q bs r
+    ∙ drop-set-lt (q .at + length bs) (p .bytes) (p .at) b (omega arith)
+    ∙ ap (λ (j : ℕ). drop j (p .bytes)) (sym k)
+
+-- so from the start of a buffer on, it is the text and the bytes behind it
+pub text-first : (bytes bs : List ℕ) → length bs ≤ length bytes → text (page bytes 0) bs .bytes ≡ bs ++ drop (length bs) bytes
+text-first bytes bs h =
+    let t = text (page bytes 0) bs .bytes in
+    let z : 0 + length bs ≡ length bs = omega arith in
+    let l : 0 + length bs ≤ length bytes = omega arith in
+    let front : take (length bs) t ≡ bs = ap (λ (k : ℕ). take k t) (sym z) ∙ text-fits (page bytes 0) bs l in
+    let back : drop (length bs) t ≡ drop (length bs) bytes =
+    ap (λ (k : ℕ). drop k t) (sym z) ∙ text-past (page bytes 0) bs l ∙ ap (λ (k : ℕ). drop k bytes) z in
+    sym (take-append-drop (length bs) t) ∙ ap (λ u. u ++ drop (length bs) t) front ∙ ap (λ u. bs ++ u) back

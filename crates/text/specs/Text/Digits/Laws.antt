@@ -1,11 +1,15 @@
 -- The digits of a word begin at the largest power of ten that is not above it (`leads`), and go on power by power (`digit-next`, `digit-end`).
+-- There are at most 20 of them (`number-short`).
 use mathlib.Core.Path.{_≡_, refl, sym, ap, _∙_}
+use mathlib.Core.Bool.{Bool, true, false}
 use mathlib.Core.List.{[], _∷_, _++_}
 use Prim.Native.Nat.{ℕ, zero, suc, _+_, _/_, _%_, _^_, _≤_, _<_}
 use native.Mathlib.Nat.{one-le-pow, zero-lt-suc, div-one, div-div-eq-div-mul, mul-comm, pow-suc}
 use native.Mathlib.Omega.{arith}
+use lib.Dec.{ltb}
+use lib.ListN.{length, length-append}
 use borrow.Author.Tests.{lt-ltb, le-ltb}
-use Rattle.text.specs.Text.{digits}
+use Rattle.text.specs.Text.{digits, numberText}
 use Rattle.text.specs.Text.Digits.{low, lead, Leads}
 
 positive : (k : ℕ) → 1 ≤ 10 ^ k
@@ -57,3 +61,17 @@ pub digit-end : (n k power : ℕ) → power ≡ lead k → power ≤ 0 → low k
 unfolding low lead
 digit-end n zero power e h = refl
 digit-end n (suc k) power e h = absurd (omega (arith, positive k))
+
+-- a word has at most 20 digits
+digits-most : (k n : ℕ) → length (digits k n) ≤ k
+unfolding digits
+digits-most zero n = omega arith
+digits-most (suc k) n = go (ltb n 10) (digits-most k (n / 10))
+  where
+    go : (t : Bool) → length (digits k (n / 10)) ≤ k
+        → length {A = ℕ} (elim t [ true ↦ (48 + n) ∷ [] | false ↦ digits k (n / 10) ++ ((48 + n % 10) ∷ []) ]) ≤ suc k
+    go true h = omega arith
+    go false h = omega (arith, length-append (digits k (n / 10)) ((48 + n % 10) ∷ []))
+
+pub number-short : (n : ℕ) → length (numberText n) ≤ 20
+number-short n = digits-most 20 n

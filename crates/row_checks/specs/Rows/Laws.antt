@@ -1,0 +1,134 @@
+-- The checks, computed (`cases`). They are those of a session that has the rows, no rules and the empty current set (`as-session`). Where
+-- they pass, the counts are in range, the row words have the rows in use, and each row marks attributes of M, none of them both ways
+-- (`rows-fit`).
+use mathlib.Core.Path.{_≡_, refl, sym, ap, _∙_}
+use mathlib.Core.Bool.{Bool, true, false, not, _||_}
+use mathlib.Core.List.{List, [], _∷_}
+use mathlib.Core.Option.{none, some}
+use Prim.Native.Nat.{ℕ, _*_, _/_, _%_, _≤_, _<_}
+use native.Mathlib.Omega.{arith}
+use lib.ListN.{length}
+use lib.Dec.{eqb, ltb}
+use borrow.Author.Tests.{eqb-false, ltb-false}
+use Rattle.session.specs.declared.Session.{Session}
+use Rattle.session.specs.Refusals.{refusal}
+use Rattle.session.specs.Limits.{mostAttributes, mostObjects, mostImplications, badLength}
+use Rattle.theory.specs.Lists.{All}
+use Rattle.attribute_set.specs.Sets.{Apart, inside, full, meets}
+use Rattle.attribute_set.specs.Sets.Laws.{none-sub, sub-inside}
+use Rattle.implication.specs.Pairs.{pairs}
+use Rattle.implication.specs.Pairs.Laws.{length-pairs}
+use Rattle.implication.specs.Closure.{implication, closure, close}
+use Rattle.context.specs.Places.{lowest, anywhere}
+use Rattle.context.specs.Places.Laws.{anywhere-false}
+use Rattle.context.specs.Objects.{Object, object, objectsOf, markedTwice, contradicts}
+use Rattle.context.specs.Objects.Laws.{marked-apart}
+use Rattle.machine.specs.Checks.{Check, check, firstFailing, strange, strangeObject, strangeImplication, sessionChecks, outsideM}
+use Rattle.machine.specs.Checks.Laws.{InM, or-false, passed, unasked, failing-here, failing-later, familiar-object}
+use Rattle.machine.specs.Calls.{stateOf}
+use Rattle.row_checks.specs.Rows.{rowChecks}
+
+-- computed, each refusal before those behind it: no attribute, an odd length, a row too many, an attribute outside M, one marked both ways
+-- by row 1; and rows that pass
+cases : (firstFailing (rowChecks 0 3 (2 ∷ [])) ≡ some (refusal 1 0))
+    × (firstFailing (rowChecks 1 3 (2 ∷ [])) ≡ some (refusal 2 0))
+    × (firstFailing (rowChecks 1 3 (2 ∷ 1 ∷ 2 ∷ 1 ∷ [])) ≡ some (refusal 3 0))
+    × (firstFailing (rowChecks 1 2 (1 ∷ 1 ∷ 2 ∷ 1 ∷ [])) ≡ some (refusal 4 0))
+    × (firstFailing (rowChecks 2 2 (1 ∷ 0 ∷ 1 ∷ 1 ∷ [])) ≡ some (refusal 5 1))
+    × (firstFailing (rowChecks 2 2 (1 ∷ 0 ∷ 0 ∷ 3 ∷ 3 ∷ 3 ∷ [])) ≡ none)
+unfolding rowChecks firstFailing badLength anywhere lowest markedTwice meets strange inside full pairs
+cases = (refl, refl, refl, refl, refl, refl)
+
+-- the session of the rows alone
+abbrev pub rowsAlone : ℕ → ℕ → Session
+rowsAlone n used = record { n = n; rows = used; rules = 0; current = 0 }
+
+or-none : (b : Bool) → (b || false) ≡ b
+or-none true = refl
+or-none false = refl
+
+-- a check that fails decides; where it passes, what stands behind it does
+behind : (c : Check) (cs ds : List Check) → (c .fails ≡ false → firstFailing cs ≡ firstFailing ds) → firstFailing (c ∷ cs) ≡ firstFailing (c ∷ ds)
+behind c cs ds h = go (c .fails) refl
+  where
+    go : (b : Bool) → c .fails ≡ b → firstFailing (c ∷ cs) ≡ firstFailing (c ∷ ds)
+    go true e = failing-here c cs e ∙ sym (failing-here c ds e)
+    go false e = failing-later c cs e ∙ h e ∙ sym (failing-later c ds e)
+
+module _ (n used : ℕ) (words : List ℕ) where
+  abbrev rows : List Object
+  rows = objectsOf used words
+
+  lengths : (badLength mostObjects (length words) || (badLength mostImplications 0 || badLength mostImplications 0)) ≡ badLength mostObjects (length words)
+  unfolding badLength
+  lengths = or-none _
+
+  places : (ltb (length words / 2) (length rows) || ltb (0 / 2) 0) ≡ ltb (length words / 2) used
+  places = or-none _ ∙ ap (ltb (length words / 2)) (length-pairs object used words)
+
+  outside : (anywhere (strangeObject n) rows || (anywhere (strangeImplication n) [] || not (inside 0 (full n)))) ≡ anywhere (strangeObject n) rows
+  unfolding anywhere lowest
+  outside = rw (sub-inside (none-sub (full n))) (or-none _)
+
+  abbrev six : Check
+  six = check 6 (anywhere (contradicts []) rows) (lowest (contradicts []) rows)
+
+  abbrev seven : Check
+  seven = check 7 (not (eqb (closure [] 0) 0)) 0
+
+  -- no rule is in force: a row contradicts just where it marks an attribute both ways, and the empty set is its own closure
+  last : anywhere markedTwice rows ≡ false → firstFailing (six ∷ seven ∷ []) ≡ firstFailing []
+  unfolding closure close contradicts markedTwice
+  last e = failing-later six (seven ∷ []) e ∙ failing-later seven [] refl
+
+  -- the checks, by whether 2, 3 and 4 fail
+  checks : Bool → Bool → Bool → List Check → List Check
+  checks two three four cs =
+      check 1 (eqb n 0 || ltb mostAttributes n) 0
+      ∷ check 2 two 0
+      ∷ check 3 three 0
+      ∷ check 4 four 0
+      ∷ check 5 (anywhere markedTwice rows) (lowest markedTwice rows)
+      ∷ cs
+
+  pub as-session : firstFailing (sessionChecks (stateOf (rowsAlone n used) words [] []) (implication 0 0 ∷ [])) ≡ firstFailing (rowChecks n used words)
+  unfolding sessionChecks outsideM rowChecks pairs checks
+  as-session =
+      let cs = six ∷ seven ∷ [] in
+      unasked (stateOf (rowsAlone n used) words [] [])
+      ∙ ap (λ b. firstFailing (checks b (ltb (length words / 2) (length rows) || ltb (0 / 2) 0)
+      (anywhere (strangeObject n) rows || (anywhere (strangeImplication n) [] || not (inside 0 (full n)))) cs)) lengths
+      ∙ ap (λ b. firstFailing (checks (badLength mostObjects (length words)) b
+      (anywhere (strangeObject n) rows || (anywhere (strangeImplication n) [] || not (inside 0 (full n)))) cs)) places
+      ∙ ap (λ b. firstFailing (checks (badLength mostObjects (length words)) (ltb (length words / 2) used) b cs)) outside
+      ∙ behind _ _ _ λ a. behind _ _ _ λ b. behind _ _ _ λ c. behind _ _ _ λ d. behind _ cs [] last
+
+-- ---- what passed checks give
+
+pub record Fits (n used : ℕ) (words : List ℕ) : Type 0 where
+  pub some : 0 < n
+  pub attributes : n ≤ mostAttributes
+  pub objects : used ≤ mostObjects
+  pub places : used ≤ length words / 2
+  pub inside : All (InM n) (objectsOf used words)
+  pub apart : All (λ o. Apart (o .yes-marks) (o .no-marks)) (objectsOf used words)
+
+length-fits : (words : ℕ) → badLength mostObjects words ≡ false → words ≤ mostObjects * 2
+unfolding badLength
+length-fits words e = ltb-false _ _ (or-false (not (eqb (words % 2) 0)) _ e .1)
+
+pub rows-fit : (n used : ℕ) (words : List ℕ) → firstFailing (rowChecks n used words) ≡ none → Fits n used words
+unfolding rowChecks
+rows-fit n used words e =
+    let p = passed (rowChecks n used words) e in
+    let os = objectsOf used words in
+    let one = or-false (eqb n 0) (ltb mostAttributes n) (p .0) in
+    let places : used ≤ length words / 2 = ltb-false _ _ (p .1 .1 .0) in
+    record {
+      some = omega (arith, eqb-false n 0 (one .0));
+      attributes = ltb-false _ _ (one .1);
+      objects = omega (arith, length-fits (length words) (p .1 .0));
+      places = places;
+      inside = λ o m. familiar-object n o (anywhere-false (strangeObject n) os (p .1 .1 .1 .0) o m);
+      apart = λ o m. marked-apart o (anywhere-false markedTwice os (p .1 .1 .1 .1 .0) o m);
+    }

@@ -1,0 +1,6 @@
+pub mod Counts
+pub mod Marks
+pub mod Opened
+pub mod Tables
+pub mod ReadBack
+pub mod Settled
