@@ -7,6 +7,7 @@ use Rattle.answer_words.specs.Codes.{coded}
 use Rattle.table_writing.specs.declared.Written.{Written}
 use Rattle.table_writing.specs.declared.Written.the-variants.{Bytes, Refused}
 use Rattle.table_writing.specs.Writing.{Lent, Writes}
+pub mod Laws
 
 abbrev pub codeOfWritten : Written → Coded
 codeOfWritten (Bytes size) = coded 103 size 0

@@ -23,6 +23,7 @@ use Rattle.table_writing.specs.declared.Written.{Written}
 use Rattle.table_writing.specs.declared.Written.the-variants.{Bytes, Refused}
 pub mod Laws
 pub mod Names
+pub mod Places
 
 -- the names needed, in order: the first that is missing, empty or too long, or where they end
 abbrev pub namesWalk : ℕ → ℕ → List ℕ → Walk

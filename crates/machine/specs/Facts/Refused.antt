@@ -37,7 +37,7 @@ pub record RightPlace (s : State) (c : Call) (r : Refusal) : Type 0 where
 -- ---- the check that fails
 
 -- a refusal is that of a check of the list that fails
-failing-check : (P : Refusal → Type 0) (cs : List Check) → All (λ c. c .fails ≡ true → P (refusal (c .number) (c .place))) cs
+pub failing-check : (P : Refusal → Type 0) (cs : List Check) → All (λ c. c .fails ≡ true → P (refusal (c .number) (c .place))) cs
     → (r : Refusal) → firstFailing cs ≡ some r → P r
 unfolding firstFailing
 failing-check P [] all r e = absurd (Option·some-ne-none _ (sym e))
@@ -50,7 +50,7 @@ failing-check P (c ∷ cs) all r e = go (c .fails) refl (failing-check P cs (λ 
         subst P same (all c (List·Memᴰ·head refl) f)
     go false f ih h = ih h
 
-lowest-row : {A : Type 0} (f : A → Bool) (l : List A) → anywhere f l ≡ true → Lowest f l (lowest f l)
+pub lowest-row : {A : Type 0} (f : A → Bool) (l : List A) → anywhere f l ≡ true → Lowest f l (lowest f l)
 unfolding anywhere
 lowest-row f l e =
     let h = ltb-true (lowest f l) (length l) e in
