@@ -2,11 +2,13 @@
 -- a refusal has its own number and its place.
 use mathlib.Core.Path.{_≡_}
 use Prim.Native.Nat.{ℕ}
+use Rattle.text.specs.Page.{Buffer}
+use Rattle.machine.specs.Calls.{Words}
 use Rattle.answer_words.specs.declared.Answer.{Answer as Coded}
 use Rattle.answer_words.specs.Codes.{coded}
 use Rattle.table_writing.specs.declared.Written.{Written}
 use Rattle.table_writing.specs.declared.Written.the-variants.{Bytes, Refused}
-use Rattle.table_writing.specs.Writing.{Lent, Writes}
+use Rattle.table_writing.specs.Writing.{Writes}
 pub mod Laws
 
 abbrev pub codeOfWritten : Written → Coded
@@ -14,5 +16,5 @@ codeOfWritten (Bytes size) = coded 103 size 0
 codeOfWritten (Refused r) = coded (r .number) (r .place) 0
 
 -- the words say what writing answers, over the lent slices: row words, names, output
-abbrev pub WritesCoded : ℕ → ℕ → Lent → Lent → Lent → Coded → Type 0
+abbrev pub WritesCoded : ℕ → ℕ → Words → Buffer → Buffer → Coded → Type 0
 WritesCoded n used rows names out x = (w : Written) × (x ≡ codeOfWritten w) × Writes n used rows names out w

@@ -5,8 +5,7 @@ use mathlib.Core.Bool.{Bool, true, false, _||_}
 use mathlib.Core.List.{List, [], _∷_, _++_}
 use mathlib.Core.Option.{Option, none, some}
 use Prim.Native.Nat.{ℕ, _+_}
-use denote.Triple.Both.{Both}
-use denote.Ref.{RefT, now}
+use denote.Ref.{now}
 use lib.ListN.{length, drop, replicate}
 use lib.Dec.{ltb}
 use Rattle.session.specs.declared.Refusal.{Refusal}
@@ -16,7 +15,9 @@ use Rattle.line_walk.specs.declared.Walk.the-variants.{Failed, At}
 use Rattle.line_walk.specs.Walk.{walk}
 use Rattle.table_walk.specs.Walk.{placeOf}
 use Rattle.table_layout.specs.Layout.{mostBytes}
+use Rattle.text.specs.Page.{Buffer}
 use Rattle.machine.specs.Checks.{Check, check, firstFailing}
+use Rattle.machine.specs.Calls.{Words}
 use Rattle.row_checks.specs.Rows.{rowChecks}
 use Rattle.table_text.specs.Table.{textOf}
 use Rattle.table_writing.specs.declared.Written.{Written}
@@ -72,9 +73,6 @@ pub record WritesFrom (n used : ℕ) (words names out : List ℕ) (x : Written) 
   pub output : out′ ≡ outputAfter x (textOf n used words names) out
 
 -- over the lent slices: row words, names, output
-abbrev pub Lent : Type 0
-Lent = Both (RefT (List ℕ)) (RefT (List ℕ))
-
-abbrev pub Writes : ℕ → ℕ → Lent → Lent → Lent → Written → Type 0
+abbrev pub Writes : ℕ → ℕ → Words → Buffer → Buffer → Written → Type 0
 Writes n used rows names out x =
     WritesFrom n used (now (rows .entry)) (now (names .entry)) (now (out .entry)) x (now (out .exit))

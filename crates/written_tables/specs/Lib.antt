@@ -1,5 +1,3 @@
-pub mod Counts
-pub mod Marks
 pub mod Opened
 pub mod Tables
 pub mod ReadBack

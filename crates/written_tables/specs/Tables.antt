@@ -8,6 +8,8 @@ use Rattle.table_lines.specs.Pieces.{linesOf}
 use Rattle.table_layout.specs.declared.Layout.{Layout}
 use Rattle.table_text.specs.Table.{linesWritten, textOf}
 use Rattle.written_tables.specs.ReadBack.{FindsTable}
+pub mod Counts
+pub mod Marks
 pub mod Laws
 
 pub record TextRead (n used : ℕ) (words names : List ℕ) : Type 0 where

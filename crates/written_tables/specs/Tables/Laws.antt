@@ -32,9 +32,10 @@ use Rattle.table_text.specs.Table.{headerLines, markLines, linesWritten, textOf
 use Rattle.table_text.specs.Table.Laws.{lines-parts}
 use Rattle.table_writing.specs.Writing.{RowsPass, NamesPass}
 use Rattle.table_writing.specs.Writing.Laws.{names-fine}
-use Rattle.written_tables.specs.Counts.{count-no-end}
-use Rattle.written_tables.specs.Marks.{marks-row, marks-line, marks-no-end}
-use Rattle.written_tables.specs.Opened.{HasTable, tableOf, table-opened, object-line, attribute-line, table-rows}
+use Rattle.written_tables.specs.Tables.Counts.{count-no-end}
+use Rattle.written_tables.specs.Tables.Marks.{marks-row, marks-line, marks-no-end}
+use Rattle.written_tables.specs.Opened.{HasTable, tableOf}
+use Rattle.written_tables.specs.Opened.Laws.{table-opened, object-line, attribute-line, table-rows}
 use Rattle.written_tables.specs.ReadBack.{FindsTable}
 use Rattle.written_tables.specs.Tables.{TextRead}
 

@@ -17,7 +17,7 @@ use Rattle.table_kinds.specs.declared.Kind.the-variants.{Marks}
 use Rattle.line_faults.specs.Faults.{fault}
 use Rattle.marks_text.specs.Marks.{markOf, marksText}
 use Rattle.marks_text.specs.Marks.Laws.{marks-length, marks-all}
-use Rattle.written_tables.specs.Counts.{all-everywhere}
+use Rattle.written_tables.specs.Tables.Counts.{all-everywhere}
 
 -- sets that share no member, without their first attribute
 apart-half : (y m : ℕ) → Apart y m → Apart (y / 2) (m / 2)
