@@ -28,7 +28,7 @@ Inv-loop out₀ at n rows used count to₀ i₀ out to i =
 abbrev μ-loop : tie.MeasureT-loop
 μ-loop out₀ at n rows used count to₀ i₀ out to i = count - i
 
--- the places: the start and the number of rows, before the loop; a turn of it, and the line that the turn writes
+-- the places: the start and the number of rows, before the loop; a turn of it, the row that is read in it, and the line that it writes
 abbrev counted : tie.At-loop Inv-loop μ-loop → tie.After-smaller Inv-loop μ-loop
 counted c = c .before
 
@@ -38,8 +38,11 @@ start c = c .before .before .before
 abbrev put : tie.After-slice-known2 Inv-loop μ-loop → tie.After-put-row Inv-loop μ-loop
 put c = c .before .before
 
-abbrev turn : tie.After-put-row Inv-loop μ-loop → tie.At-loop Inv-loop μ-loop
-turn c = c .before .before .before .before .before
+abbrev row : tie.After-put-row Inv-loop μ-loop → tie.After-put-row-arg Inv-loop μ-loop
+row c = c .before .before .before
+
+abbrev turn : tie.After-put-row-arg Inv-loop μ-loop → tie.At-loop Inv-loop μ-loop
+turn c = c .before .before
 
 loop-holds : tie.Need-loop-holds Inv-loop μ-loop
 loop-holds c = (omega arith, rw sub-zero refl)
@@ -47,7 +50,7 @@ loop-holds c = (omega arith, rw sub-zero refl)
 loop-again : tie.Need-loop-again Inv-loop μ-loop
 loop-again c =
     let p = put c in
-    let t = turn p in
+    let t = turn (row p) in
     let l = t .loop in
     let a = start (counted t) .args in
     let count = counted t .smaller .result in

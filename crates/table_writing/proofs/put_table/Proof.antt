@@ -7,7 +7,7 @@ use borrow.Author.Needs.{needs}
 use Rattle.context.specs.Objects.{objectsOf}
 use Rattle.context.specs.Objects.Laws.{whole}
 use Rattle.text.specs.Page.{page, text}
-use Rattle.text.specs.Page.Laws.{text-on}
+use Rattle.text.specs.Page.Laws.{text-on, text-then}
 use Rattle.closed_lines.specs.Closed.{closed, firstLines}
 use Rattle.table_text.specs.Table.{headerLines, markLines}
 use Rattle.table_text.specs.Table.Laws.{text-parts}
@@ -19,15 +19,18 @@ use Rattle.table_writing.proofs.put_table.Tie as tie
 abbrev first : tie.After-put-lines-arg → tie.After-put-header
 first c = c .before .before .before
 
-abbrev start : tie.After-put-header → tie.Start
-start c = c .before .before .before .before .before
+abbrev known : tie.After-put-header → tie.After-slice-known
+known c = c .before .before
+
+abbrev start : tie.After-slice-known → tie.Start
+start c = c .before .before .before
 
 abbrev second : tie.After-put-rows → tie.After-put-lines
 second c = c .before .before .before .before
 
 add-put-lines : tie.Need-add-put-lines
 add-put-lines c =
-    let s = start (first c) in
+    let s = start (known (first c)) in
     let a = s .args in
     omega (arith, rows-fit (a .n) (a .used) (a .rows .now) (s .pre))
 
@@ -36,7 +39,7 @@ returns c =
     let third = c .before .before in
     let named = second third in
     let headed = first (named .before) in
-    let s = start headed in
+    let s = start (known headed) in
     let a = s .args in
     let ws = a .rows .now in
     let p = page (a .out .now) 0 in
@@ -44,7 +47,8 @@ returns c =
     let all : whole (a .used) ws ≡ a .used = omega (arith, fits) in
     let header = closed (headerLines (a .used) (a .n)) in
     let names = closed (firstLines (a .used + a .n) (a .names .now)) in
-    text-on p header _ (headed .put-header .ensures) (text-on _ names _ (named .put-lines .ensures) (third .put-rows .ensures))
+    let marks = closed (markLines (a .n) (objectsOf (whole (a .used) ws) ws)) in
+    text-then p header names marks (text-on p header names (headed .put-header .ensures) (named .put-lines .ensures)) (third .put-rows .ensures)
     ∙ ap (λ (k : ℕ). text p (header ++ (names ++ closed (markLines (a .n) (objectsOf k ws))))) all
     ∙ ap (text p) (sym (text-parts (a .n) (a .used) ws (a .names .now)))
 

@@ -1,12 +1,11 @@
 -- The size that is found decides; where it fits, the text stands at the start of the output, and what was behind it is kept.
 use mathlib.Core.Path.{refl, sym, ap, _∙_}
-use mathlib.Core.List.{List, _++_}
+use mathlib.Core.List.{List}
 use Prim.Native.Nat.{ℕ, _≤_}
 use native.Mathlib.Omega.{arith}
-use lib.ListN.{length, drop}
+use lib.ListN.{length}
 use borrow.Author.Needs.{needs}
-use Rattle.text.specs.Page.{Page}
-use Rattle.text.specs.Page.Laws.{text-first}
+use Rattle.text.specs.Page.Laws.{put-first}
 use Rattle.table_text.specs.Table.{textOf}
 use Rattle.table_writing.specs.declared.Written.the-variants.{Bytes, Refused}
 use Rattle.table_writing.specs.Writing.Laws.{long-file, long-output, short-both, long-refused, all-written}
@@ -64,9 +63,7 @@ returns-3 c =
     let l = short-both (room d) (length text) (omega (arith, size, e .before .if1 .left)) few in
     record {
       answer = ap Bytes size ∙ sym (all-written (a .n) (a .used) (a .rows .now) (a .names .now) (room d) (s .pre .0) (s .pre .1) l);
-      output = ap (λ (q : Page). q .bytes) (p .put-table .ensures)
-          ∙ text-first out text few
-          ∙ ap (λ (k : ℕ). text ++ drop k out) (sym size);
+      output = put-first out _ text (p .put-table .result) (d .size-of-text .result) (p .put-table .ensures) size (e .if2 .left);
     }
 
 pub write-named-spec : {M : Type 1} → statement M

@@ -127,7 +127,7 @@ text-past p (b ∷ bs) h =
     ∙ ap (λ (j : ℕ). drop j (p .bytes)) (sym k)
 
 -- so from the start of a buffer on, it is the text and the bytes behind it
-pub text-first : (bytes bs : List ℕ) → length bs ≤ length bytes → text (page bytes 0) bs .bytes ≡ bs ++ drop (length bs) bytes
+text-first : (bytes bs : List ℕ) → length bs ≤ length bytes → text (page bytes 0) bs .bytes ≡ bs ++ drop (length bs) bytes
 text-first bytes bs h =
     let t = text (page bytes 0) bs .bytes in
     let z : 0 + length bs ≡ length bs = omega arith in
@@ -136,3 +136,9 @@ text-first bytes bs h =
     let back : drop (length bs) t ≡ drop (length bs) bytes =
     ap (λ (k : ℕ). drop k t) (sym z) ∙ text-past (page bytes 0) bs l ∙ ap (λ (k : ℕ). drop k bytes) z in
     sym (take-append-drop (length bs) t) ∙ ap (λ u. u ++ drop (length bs) t) front ∙ ap (λ u. bs ++ u) back
+
+-- what a buffer holds where a text was written from its start on
+pub put-first : (bytes bytes′ bs : List ℕ) (end size : ℕ) → page bytes′ end ≡ text (page bytes 0) bs → size ≡ length bs → size ≤ length bytes
+    → bytes′ ≡ bs ++ drop size bytes
+put-first bytes bytes′ bs end size e n h =
+    ap (λ (p : Page). p .bytes) e ∙ text-first bytes bs (omega arith) ∙ ap (λ (k : ℕ). bs ++ drop k bytes) (sym n)
