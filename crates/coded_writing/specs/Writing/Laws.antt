@@ -11,7 +11,7 @@ use Rattle.answer_words.specs.declared.Answer.{Answer as Coded}
 use Rattle.table_writing.specs.declared.Written.{Written}
 use Rattle.table_writing.specs.declared.Written.the-variants.{Bytes, Refused}
 use Rattle.table_writing.specs.Writing.{writing}
-use Rattle.table_writing.specs.Writing.Places.{right-place}
+use Rattle.table_writing.specs.Writing.Places.Laws.{right-place}
 use Rattle.coded_writing.specs.Writing.{codeOfWritten}
 
 -- a refusal's number is below 100

@@ -1,87 +1,17 @@
--- The number of a writer's refusal, and the place that it names (`right-place`): 1 to 5, 26 or 30; in 5 the lowest row that marks an attribute
--- both ways, in 26 where the first line begins that is no name, else 0.
-use mathlib.Core.Path.{_≡_, refl, sym, ap}
-use mathlib.Core.Bool.{true, true≢false}
-use mathlib.Core.Logic.{_⊎_, inl, inr}
+-- The number of a writer's refusal, and the place that it names (02, request 2/13): 1 to 5, 26 or 30; in 5 the lowest row that marks an
+-- attribute both ways, in 26 where the first line begins that is no name, else 0.
+use mathlib.Core.Path.{_≡_}
+use mathlib.Core.Logic.{_⊎_}
 use mathlib.Core.List.{List}
-use mathlib.Core.Option.{Option, none, some}
 use Prim.Native.Nat.{ℕ, _+_, _≤_, _<_}
-use native.Mathlib.Omega.{arith}
-use lib.ListN.{length}
-use Rattle.theory.specs.Lists.{All}
-use Rattle.theory.specs.Lists.Laws.{all-nil, all-cons, all-append}
 use Rattle.session.specs.declared.Refusal.{Refusal}
-use Rattle.session.specs.Refusals.{refusal}
 use Rattle.context.specs.Objects.{objectsOf, markedTwice}
-use Rattle.machine.specs.Checks.{Check, firstFailing}
-use Rattle.machine.specs.Facts.Refused.{Lowest, lowest-row, failing-check}
-use Rattle.line_walk.specs.declared.Walk.{Walk}
-use Rattle.line_walk.specs.declared.Walk.the-variants.{Failed, At}
-use Rattle.table_walk.specs.Walk.{placeOf}
-use Rattle.row_checks.specs.Rows.{rowChecks}
-use Rattle.table_text.specs.Table.{textOf}
-use Rattle.table_writing.specs.declared.Written.the-variants.{Refused}
-use Rattle.table_writing.specs.Writing.{namesWalk, isFailed, writeChecks, writtenBy, writing}
-use Rattle.table_writing.specs.Writing.Names.{FirstBad, first-bad}
+use Rattle.machine.specs.Facts.Refused.{Lowest}
+use Rattle.table_writing.specs.Writing.Names.{FirstBad}
+pub mod Laws
 
 pub record RightPlace (n used : ℕ) (words names : List ℕ) (r : Refusal) : Type 0 where
   pub number : ((0 < r .number) × (r .number ≤ 5)) ⊎ ((r .number ≡ 26) ⊎ (r .number ≡ 30))
   pub five : r .number ≡ 5 → Lowest markedTwice (objectsOf used words) (r .place)
   pub name : r .number ≡ 26 → (k : ℕ) × FirstBad names (used + n) k (r .place)
   pub other : (r .number ≡ 5 → ⊥) → (r .number ≡ 26 → ⊥) → r .place ≡ 0
-
-module _ (n used : ℕ) (words names : List ℕ) where
-  -- the check fails with this number at this place
-  abbrev Right : Check → Type 0
-  Right c = c .fails ≡ true → RightPlace n used words names (refusal (c .number) (c .place))
-
-  small : (k : ℕ) → 0 < k → k < 5 → RightPlace n used words names (refusal k 0)
-  small k h i = record { number = inl (h, omega arith); five = λ e. absurd (omega arith); name = λ e. absurd (omega arith); other = λ a b. refl }
-
-  row-places : All Right (rowChecks n used words)
-  unfolding rowChecks
-  row-places =
-      all-cons (λ f. small 1 (omega arith) (omega arith)) (all-cons (λ f. small 2 (omega arith) (omega arith))
-      (all-cons (λ f. small 3 (omega arith) (omega arith)) (all-cons (λ f. small 4 (omega arith) (omega arith))
-      (all-cons (λ f. record {
-        number = inl (omega arith, omega arith);
-        five = λ e. lowest-row markedTwice (objectsOf used words) f;
-        name = λ e. absurd (omega arith);
-        other = λ a b. absurd (a refl);
-      }) (all-nil _)))))
-
-  name-place : isFailed (namesWalk n used names) ≡ true → RightPlace n used words names (refusal 26 (placeOf (namesWalk n used names)))
-  name-place f = record {
-    number = inr (inl refl);
-    five = λ e. absurd (omega arith);
-    name = λ e. go (namesWalk n used names) refl f;
-    other = λ a b. absurd (b refl);
-  }
-    where
-      go : (w : Walk) → namesWalk n used names ≡ w → isFailed w ≡ true → (k : ℕ) × FirstBad names (used + n) k (placeOf w)
-      go (At at) e g = absurd (true≢false (sym g))
-      go (Failed r) e g = first-bad n used names r e
-
-  places : (room : ℕ) → All Right (writeChecks n used words names room)
-  unfolding writeChecks
-  places room =
-      all-append (rowChecks n used words) _ row-places
-      (all-cons name-place (all-cons (λ f. record {
-        number = inr (inr refl);
-        five = λ e. absurd (omega arith);
-        name = λ e. absurd (omega arith);
-        other = λ a b. refl;
-      }) (all-nil _)))
-
-refused-by : (o : Option Refusal) (size : ℕ) (r : Refusal) → writtenBy o size ≡ Refused r → o ≡ some r
-refused-by none size r e = let z : _≡_ {A = ℕ} 0 1 = cc in absurd (omega arith)
-refused-by (some x) size r e =
-    let same : x ≡ r = cc in
-    ap some same
-
-pub right-place : (n used : ℕ) (words names : List ℕ) (room : ℕ) (r : Refusal) → writing n used words names room ≡ Refused r
-    → RightPlace n used words names r
-right-place n used words names room r e =
-    let o = firstFailing (writeChecks n used words names room) in
-    failing-check (RightPlace n used words names) (writeChecks n used words names room) (places n used words names room) r
-    (refused-by o (length (textOf n used words names)) r e)
