@@ -23,7 +23,7 @@
 extern "C" {
 #endif
 
-enum { ZUNDRAFL_VERSION_MAJOR = 1, ZUNDRAFL_VERSION_MINOR = 1 }; /* minor: something was added; major: something was changed */
+enum { ZUNDRAFL_VERSION_MAJOR = 1, ZUNDRAFL_VERSION_MINOR = 2 }; /* minor: something was added; major: something was changed */
 
 enum {
     ZUNDRAFL_MOST_ATTRIBUTES = 64,
@@ -55,7 +55,8 @@ enum {
     ZUNDRAFL_BAD_MARKS = 27,
     ZUNDRAFL_NOT_AT_END = 28,       /* a line after the last one needed is not empty */
     ZUNDRAFL_MARK_UNKNOWN = 29,     /* in a table that has to be complete */
-    ZUNDRAFL_TEXT_TOO_LONG = 30     /* the text to write is longer than 65,535 bytes or than the output */
+    ZUNDRAFL_TEXT_TOO_LONG = 30,    /* the text to write is longer than 65,535 bytes or than the output */
+    ZUNDRAFL_BAD_PERCENTAGE = 31    /* a percentage is above 99 */
 };
 
 /* codes of answers that are no refusals, 100 and above */
@@ -63,7 +64,7 @@ enum {
     ZUNDRAFL_FINISHED = 100,
     ZUNDRAFL_MOVED = 101,
     ZUNDRAFL_ASKED = 102,    /* premise, conclusion */
-    ZUNDRAFL_TAKEN = 103,    /* an accepted opening or reply, a log that was made, a table that was read or written */
+    ZUNDRAFL_TAKEN = 103,    /* an accepted opening or reply, a log that was made, a table that was read or written, attributes that were listed */
     ZUNDRAFL_FOLLOWS = 104,  /* 1 or 0 */
     ZUNDRAFL_REFUTED = 105,  /* the lowest row that refutes */
     ZUNDRAFL_UNREFUTED = 106,
@@ -177,6 +178,15 @@ void zundrafl_attribute_name(const zundrafl_layout *layout, const uint8_t *file,
  * the names, for a missing one their length; 30 the text is longer than 65,535 bytes or than the output. */
 void zundrafl_write_table(size_t n, size_t used, const uint64_t *rows, size_t row_words, const uint8_t *names, size_t name_bytes, uint8_t *out,
                           size_t bytes, zundrafl_answer *answer);
+
+/* ---- rows alone, before there is a session */
+
+/* Lists what nearly every row with a premise has: TAKEN with the set of the attributes outside the premise for which 100 times the rows
+ * marked yes in premise and attribute exceeds `percent` times the rows marked yes in the premise. Of the rows the first `used` count, and
+ * an unknown mark is not yes; a premise that no row has lists nothing, and the empty one is had by every row. Writes *answer alone.
+ * 1 n is not 1 to 64; 2 the number of words is odd or above 1,024; 3 more rows in use than words for them; 4 a row in use or the premise
+ * has an attribute outside the n; 5 row `place` in use marks an attribute both ways; 31 the percentage is above 99. */
+void zundrafl_nearly(size_t n, size_t used, const uint64_t *rows, size_t row_words, uint64_t premise, uint64_t percent, zundrafl_answer *answer);
 
 #ifdef __cplusplus
 }

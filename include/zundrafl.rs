@@ -3,7 +3,7 @@
 #![allow(dead_code)]
 
 pub const VERSION_MAJOR: u32 = 1;
-pub const VERSION_MINOR: u32 = 1;
+pub const VERSION_MINOR: u32 = 2;
 
 pub const MOST_ATTRIBUTES: usize = 64;
 pub const MOST_ROWS: usize = 512;
@@ -32,6 +32,7 @@ pub const BAD_MARKS: u64 = 27;
 pub const NOT_AT_END: u64 = 28;
 pub const MARK_UNKNOWN: u64 = 29;
 pub const TEXT_TOO_LONG: u64 = 30;
+pub const BAD_PERCENTAGE: u64 = 31;
 
 pub const FINISHED: u64 = 100;
 pub const MOVED: u64 = 101;
@@ -203,6 +204,15 @@ unsafe extern "C" {
         name_bytes: usize,
         out: *mut u8,
         bytes: usize,
+        answer: *mut Answer,
+    );
+    pub fn zundrafl_nearly(
+        n: usize,
+        used: usize,
+        rows: *const u64,
+        row_words: usize,
+        premise: u64,
+        percent: u64,
         answer: *mut Answer,
     );
 }

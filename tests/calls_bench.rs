@@ -1,5 +1,5 @@
-//! The session calls of the library, and the one that writes a table, against those of the model, timed in turn in one
-//! run.
+//! The session calls of the library, the one that writes a table and the one that lists what nearly always holds, against
+//! those of the model, timed in turn in one run.
 //!
 //! `calls_bench [SEED]` prints the median nanoseconds of a call and the ratio of library to model.
 
@@ -7,6 +7,9 @@
 mod library;
 #[path = "model/machine.rs"]
 mod machine;
+#[path = "model/nearly.rs"]
+#[allow(dead_code)]
+mod nearly;
 #[path = "model/opened.rs"]
 #[allow(dead_code)]
 mod opened;
@@ -21,8 +24,8 @@ use std::hint::black_box;
 use std::time::{Duration, Instant};
 
 use library::{
-    zundrafl_accept, zundrafl_follows, zundrafl_open_session, zundrafl_refuted, zundrafl_reject, zundrafl_replay,
-    zundrafl_step, zundrafl_write_table,
+    zundrafl_accept, zundrafl_follows, zundrafl_nearly, zundrafl_open_session, zundrafl_refuted, zundrafl_reject,
+    zundrafl_replay, zundrafl_step, zundrafl_write_table,
 };
 use machine::{ACCEPTED, ASKED, Answer, FOLLOWS, MOVED, Record, UNREFUTED};
 use random::Random;
@@ -38,6 +41,7 @@ const CALIBRATIONS: usize = 9;
 const SIZES: [(usize, usize); 3] = [(10, 10), (100, 50), (512, 100)];
 
 const FOLLOWS_KIND: u64 = 3;
+const PERCENT: u64 = 80;
 
 /// A session in the middle of an interview.
 #[derive(Clone, PartialEq, Debug)]
@@ -63,6 +67,8 @@ enum Call {
     /// A log with the one call whether a rule follows.
     Replay(Pair),
     Write,
+    /// With a premise.
+    Nearly(u64),
 }
 
 fn log(rule: Pair) -> [u64; 3] {
@@ -80,6 +86,7 @@ fn by_model(state: &mut State, call: Call) -> Answer {
         Call::Refuted(rule) => machine::refuted(record, rows, list, background, rule),
         Call::Replay(rule) => machine::replay(record, rows, list, background, &log(rule), &mut [0; 3]),
         Call::Write => opened::write_table(record.n, record.rows, rows, names, out),
+        Call::Nearly(premise) => nearly::nearly(record.n, record.rows, rows, premise, PERCENT),
     }
 }
 
@@ -110,6 +117,7 @@ fn by_library(state: &mut State, call: Call) -> Answer {
                 zundrafl_replay(s, r, r_len, l, l_len, b, b_len, c, calls.len(), w, answers.len(), a)
             }
             Call::Write => zundrafl_write_table(n, used, r, r_len, m, m_len, o, o_len, a),
+            Call::Nearly(premise) => zundrafl_nearly(n, used, r, r_len, premise, PERCENT, a),
         }
     }
     answer
@@ -174,6 +182,10 @@ fn calls(random: &mut Random, n: usize, rows: usize, rules: usize) -> Vec<(&'sta
     one_free.record.rows -= 1;
 
     let rule = (random.subset(all), random.member(all));
+    // Two properties that some row has.
+    let several = table.iter().map(|row| row.0).find(|yes| yes.count_ones() > 1).expect("a row with two properties");
+    let first = random.member(several);
+    let two = first | random.member(several & !first);
     vec![
         ("open", moving.clone(), Call::Open, ACCEPTED),
         ("step, moves", moving.clone(), Call::Step, MOVED),
@@ -183,7 +195,9 @@ fn calls(random: &mut Random, n: usize, rows: usize, rules: usize) -> Vec<(&'sta
         ("follows", moving.clone(), Call::Follows(rule), FOLLOWS),
         ("refuted", moving.clone(), Call::Refuted((all, all)), UNREFUTED),
         ("replay", moving.clone(), Call::Replay(rule), ACCEPTED),
-        ("write", moving, Call::Write, ACCEPTED),
+        ("write", moving.clone(), Call::Write, ACCEPTED),
+        ("nearly, of 0", moving.clone(), Call::Nearly(0), ACCEPTED),
+        ("nearly, of 2", moving, Call::Nearly(two), ACCEPTED),
     ]
 }
 

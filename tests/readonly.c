@@ -1,5 +1,5 @@
 /* A record or a layout in memory that cannot be written: the calls that only read, a step that asks and every refusal leave it alone. An
- * output in such memory: a writing that is refused leaves it alone. */
+ * output in such memory: a writing that is refused leaves it alone. Row words in such memory: a listing leaves them alone, refused or not. */
 #define _DEFAULT_SOURCE
 #include "zundrafl.h"
 #include <stdio.h>
@@ -44,7 +44,9 @@ int main(void)
     zundrafl_layout *kept = locked(&layout, sizeof layout);
     static const uint8_t nothing[32];
     uint8_t *out = locked(nothing, sizeof nothing);
-    if (asked == NULL || full == NULL || kept == NULL || out == NULL)
+    static const uint64_t marked[6] = {3, 0, 1, 2, 3, 3}; /* the third row marks both attributes both ways */
+    uint64_t *marks = locked(marked, sizeof marked);
+    if (asked == NULL || full == NULL || kept == NULL || out == NULL || marks == NULL)
         return 1;
 
     zundrafl_follows(asked, rows, 4, list, 4, background, 0, 0, 1, &answer);
@@ -80,6 +82,12 @@ int main(void)
     expect("an output one byte too short", &answer, ZUNDRAFL_TEXT_TOO_LONG);
     zundrafl_write_table(2, 1, rows, 4, names, 4, out, 32, &answer);
     expect("a name that is missing", &answer, ZUNDRAFL_BAD_NAME);
-    printf("records, layouts and outputs that cannot be written: %d failures\n", failures);
+    zundrafl_nearly(2, 2, marks, 6, 1, 49, &answer);
+    expect("a listing", &answer, ZUNDRAFL_TAKEN);
+    zundrafl_nearly(2, 2, marks, 6, 1, 100, &answer);
+    expect("a listing at 100 per cent", &answer, ZUNDRAFL_BAD_PERCENTAGE);
+    zundrafl_nearly(2, 3, marks, 6, 1, 100, &answer);
+    expect("a listing over a row marked both ways", &answer, ZUNDRAFL_MARKED_TWICE);
+    printf("records, layouts, rows and outputs that cannot be written: %d failures\n", failures);
     return failures != 0;
 }

@@ -1,9 +1,10 @@
 #!/usr/bin/env python3
-"""Runs the program on files with each refusal and each mistake, and checks what it says on standard error, beside the E line.
+"""Runs a program on files with each refusal and each mistake, and checks what it says on standard error, beside the E line.
 
     python3 tests/reports.py PROGRAM
 
-With nothing but a terminal on standard input it says how it is used.
+The program is explore or nearly, by its name; nearly takes unknown marks and has no list to fill. With nothing but a terminal on standard
+input it says how it is used.
 """
 import os
 import pty
@@ -82,40 +83,56 @@ def run(program, file):
     return done.stdout.decode(), done.stderr.decode(), done.returncode
 
 
-def refusals(program):
-    for number, place, line, file in REFUSED:
+def refusals(program, files):
+    for number, place, line, file in files:
         wanted = f"E {number} {place}\n", f"{line}\n{SENTENCES[number]}\n", 0
         found = run(program, file)
         if found != wanted:
             sys.exit(f"{file[:200]!r}\nfound  {found}\nwanted {wanted}")
         assert len(found[1]) < 260
-    return len(REFUSED)
 
 
-def quiet(program):
-    """A complete table: nothing is said."""
-    for file in [table(), table(end="\r\n"), table(end="\r"), table()[:-1], table(end="\r\n")[:-1], tables.numbered(1, []), tables.costly(5)]:
+def quiet(program, last, files):
+    """Tables that are taken: nothing is said."""
+    for file in files:
         out, err, status = run(program, file)
-        assert out.splitlines()[-1].startswith("END ") and err == "" and status == 0, (out, err)
+        assert out.splitlines()[-1].startswith(last) and err == "" and status == 0, (out, err)
 
 
 def full(program):
-    """Rows with one property each: every pair has all, and 276 rules have no place."""
-    out, err, status = run(program, tables.numbered(24, ["".join("X" if j == i else "." for j in range(24)) for i in range(24)]))
+    out, err, status = run(program, SINGLE)
     assert out.endswith("\nE 12 0\n") and err == SENTENCES[12] + "\n" and status == 0, (out, err)
 
 
-def terminal(program):
+def terminal(program, name):
     leader, follower = pty.openpty()
     done = subprocess.run([program], stdin=follower, capture_output=True, timeout=10)
     os.close(leader)
     os.close(follower)
-    assert done.stdout == b"" and done.stderr.startswith(b"usage: explore < TABLE\n"), done
+    assert done.stdout == b"" and done.stderr.startswith(b"usage: %s < TABLE\n" % name.encode()), done
+    assert done.stderr.count(b"\n") == 2 and done.stderr.endswith(b"\n"), done
+
+
+COMPLETE = [table(), table(end="\r\n"), table(end="\r"), table()[:-1], table(end="\r\n")[:-1], tables.numbered(1, []), tables.costly(5)]
+# Rows with one property each: every pair has all, and 276 rules have no place.
+SINGLE = tables.numbered(24, ["".join("X" if j == i else "." for j in range(24)) for i in range(24)])
+
+
+def main():
+    program = sys.argv[1]
+    name = os.path.basename(program)
+    if name == "explore":
+        refused = REFUSED
+        quiet(program, "END ", COMPLETE)
+        full(program)
+    else:
+        refused = [each for each in REFUSED if each[0] != 29]
+        quiet(program, "N ", COMPLETE + [SINGLE] + [file for number, _, _, file in REFUSED if number == 29])
+    refusals(program, refused)
+    terminal(program, name)
+    more = ", and a list that is full" if name == "explore" else ", and nothing said of unknown marks"
+    print(f"{name}: {len(refused)} refused files explained{more}; a terminal gets the usage")
 
 
 if __name__ == "__main__":
-    count = refusals(sys.argv[1])
-    quiet(sys.argv[1])
-    full(sys.argv[1])
-    terminal(sys.argv[1])
-    print(f"{count} refused files explained, and a list that is full; a terminal gets the usage")
+    main()

@@ -7,6 +7,9 @@
 mod library;
 #[path = "model/machine.rs"]
 mod machine;
+#[path = "model/nearly.rs"]
+#[allow(dead_code)]
+mod nearly;
 #[path = "model/opened.rs"]
 mod opened;
 mod random;
@@ -19,6 +22,8 @@ mod table;
 mod fenced;
 #[path = "scripts/files.rs"]
 mod files;
+#[path = "scripts/listings.rs"]
+mod listings;
 #[path = "scripts/sessions.rs"]
 mod sessions;
 
@@ -111,8 +116,9 @@ fn main() -> ExitCode {
         let seed = seed.wrapping_add(number);
         PLAYING.store(seed, Ordering::Relaxed);
         let mut random = Random::new(seed);
-        let played = match random.below(4) {
-            0 => files::play(random, &mut tally),
+        let played = match random.below(16) {
+            0..4 => files::play(random, &mut tally),
+            4..6 => listings::play(random, &mut tally),
             _ => sessions::play(random, &mut tally),
         };
         if let Err(report) = played {
@@ -121,11 +127,11 @@ fn main() -> ExitCode {
         }
     }
 
-    for kinds in [sessions::KINDS, files::KINDS] {
+    for kinds in [sessions::KINDS, files::KINDS, listings::KINDS] {
         let kinds: Vec<&str> = kinds.iter().map(|&(kind, _)| kind).collect();
         tally.print(&kinds);
     }
-    let expected = sessions::KINDS.iter().chain(files::KINDS);
+    let expected = [sessions::KINDS, files::KINDS, listings::KINDS].into_iter().flatten();
     let rare: Vec<_> = expected
         .flat_map(|&(kind, codes)| codes.iter().map(move |&code| (kind, code)))
         .filter(|&(kind, code)| tally.of(kind, code) < OFTEN)

@@ -3,11 +3,13 @@
 //!
 //!     explore [ROW-PLACES RULE-PLACES] < TABLE
 mod sets;
+mod streams;
 mod table;
 
-use std::io::{self, Read, Write};
+use std::io::{self, Write};
 
 use sets::Pair;
+use streams::show_pair;
 use table::Refusal;
 
 /// Places lent for rows and rules.
@@ -15,16 +17,6 @@ use table::Refusal;
 struct Places {
     rows: usize,
     rules: usize,
-}
-
-fn show(out: &mut Vec<u8>, n: usize, set: u64) {
-    out.extend((0..n).map(|i| if set >> i & 1 == 1 { b'X' } else { b'.' }));
-}
-
-fn show_rule(out: &mut Vec<u8>, n: usize, rule: Pair) {
-    show(out, n, rule.0);
-    out.push(b' ');
-    show(out, n, rule.1);
 }
 
 fn interview(n: usize, table: &[Pair], places: Places, mut line: impl FnMut(&[u8])) -> Result<(), Refusal> {
@@ -43,7 +35,7 @@ fn interview(n: usize, table: &[Pair], places: Places, mut line: impl FnMut(&[u8
         let question = (set, reach & !set);
         text.clear();
         text.extend(b"Q ");
-        show_rule(&mut text, n, question);
+        show_pair(&mut text, n, question);
         let refuting = table.iter().position(|&row| sets::refutes(row, question));
         match refuting {
             Some(place) => writeln!(text, " no {}", place + 1),
@@ -70,7 +62,7 @@ fn interview(n: usize, table: &[Pair], places: Places, mut line: impl FnMut(&[u8
     for &rule in &rules {
         text.clear();
         text.extend(b"L ");
-        show_rule(&mut text, n, rule);
+        show_pair(&mut text, n, rule);
         text.push(b'\n');
         line(&text);
     }
@@ -93,9 +85,7 @@ fn main() {
         [rows, rules] => Places { rows, rules },
         _ => Places { rows: 512, rules: 256 },
     };
-    let mut file = Vec::new();
-    // One byte more than a table may have tells that a file is too long.
-    io::stdin().take(table::MAX_BYTES as u64 + 1).read_to_end(&mut file).expect("standard input");
+    let file = streams::input();
     let mut out = io::stdout().lock();
     let mut line = |text: &[u8]| out.write_all(text).expect("standard output");
     if let Err(refusal) = run(&file, places, &mut line) {

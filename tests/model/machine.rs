@@ -79,7 +79,7 @@ fn contradicted(rows: &[Pair], rules: &[Pair]) -> Option<usize> {
     rows.iter().position(|&(yes, no)| sets::closure(rules, yes) & no != 0)
 }
 
-/// Checks 1 to 6. `loose` are the other sets that check 4 tests: a rule asked about, the current set.
+/// Checks 1 to 6. `loose` are the other sets that check 4 tests: a rule asked about, the current set, a premise.
 fn check(n: usize, rows_used: usize, rules_used: usize, lent: &Lent, loose: &[u64]) -> Result<Held, Answer> {
     if !(1..=MAX_PROPERTIES).contains(&n) {
         return Err(Answer::refusal(1, 0));
@@ -109,9 +109,9 @@ fn check(n: usize, rows_used: usize, rules_used: usize, lent: &Lent, loose: &[u6
     Ok(Held { n, rows, rules })
 }
 
-/// The rows of a call that has no rules, by checks 1 to 5: check 6 finds nothing that 5 has not found.
-pub fn rows_in_use(n: usize, used: usize, rows: &[u64]) -> Result<Vec<Pair>, Answer> {
-    check(n, used, 0, &Lent { rows, list: &[], background: &[] }, &[]).map(|held| held.rows)
+/// The rows of a call that has no rules, by checks 1 to 5: check 6 finds nothing that 5 has not found. `loose` as above.
+pub fn rows_in_use(n: usize, used: usize, rows: &[u64], loose: &[u64]) -> Result<Vec<Pair>, Answer> {
+    check(n, used, 0, &Lent { rows, list: &[], background: &[] }, loose).map(|held| held.rows)
 }
 
 /// Checks 1 to 7 of a call after the opening, with the rule that it asks about.

@@ -85,7 +85,7 @@ pub fn attribute_name(layout: &Layout, file: &[u8], number: usize) -> Answer {
 
 /// Writes the first `used` rows and the names as a table file at the start of the output.
 pub fn write_table(n: usize, used: usize, rows: &[u64], names: &[u8], out: &mut [u8]) -> Answer {
-    let rows = match machine::rows_in_use(n, used, rows) {
+    let rows = match machine::rows_in_use(n, used, rows, &[]) {
         Ok(rows) => rows,
         Err(refusal) => return refusal,
     };

@@ -1,5 +1,10 @@
 //! Memory to lend, with a fence on both sides that shows writes outside.
 
+use crate::machine::Answer;
+
+pub const FENCE_WORD: u64 = 0xfe4c_e000_0000_fe4c;
+pub const FENCE_ANSWER: Answer = Answer { code: FENCE_WORD, first: FENCE_WORD, second: FENCE_WORD };
+
 const WIDTH: usize = 4;
 
 pub struct Fenced<T> {

@@ -1,7 +1,7 @@
 //! Scripts over table files, whole and damaged, with right and wrong layouts, and over tables to write.
 
 use crate::Tally;
-use crate::fenced::Fenced;
+use crate::fenced::{FENCE_ANSWER, FENCE_WORD, Fenced};
 use crate::library::{
     zundrafl_attribute_name, zundrafl_object_name, zundrafl_open_complete_table, zundrafl_open_table,
     zundrafl_read_marks, zundrafl_write_table,
@@ -23,9 +23,7 @@ pub const KINDS: &[(&str, &[u64])] = &[
     ("write_table", &[1, 2, 3, 4, 5, 26, 30, 103]),
 ];
 
-const FENCE_WORD: u64 = 0xfe4c_e000_0000_fe4c;
 const FENCE_BYTE: u8 = 0xfe;
-const FENCE_ANSWER: Answer = Answer { code: FENCE_WORD, first: FENCE_WORD, second: FENCE_WORD };
 const FENCE_LAYOUT: Layout =
     Layout { objects: 0xfe4c, attributes: 0xfe4c, object_names: 0xfe4c, attribute_names: 0xfe4c, marks: 0xfe4c };
 

@@ -1,7 +1,7 @@
 //! Scripts of session calls: interviews with truthful and with random replies, damaged records and words, logs.
 
 use crate::Tally;
-use crate::fenced::Fenced;
+use crate::fenced::{FENCE_ANSWER, FENCE_WORD, Fenced};
 use crate::library::{
     zundrafl_accept, zundrafl_follows, zundrafl_open_and_replay, zundrafl_open_session, zundrafl_refuted, zundrafl_reject,
     zundrafl_replay, zundrafl_step,
@@ -27,8 +27,6 @@ pub const KINDS: &[(&str, &[u64])] = &[
 /// No interview of a script has more calls than this.
 const MAX_CALLS: usize = 500;
 
-const FENCE_WORD: u64 = 0xfe4c_e000_0000_fe4c;
-const FENCE_ANSWER: Answer = Answer { code: FENCE_WORD, first: FENCE_WORD, second: FENCE_WORD };
 const FENCE_RECORD: Record = Record { n: 0xfe4c, rows: 0xfe4c, rules: 0xfe4c, current: FENCE_WORD };
 
 /// The record and the lent words.

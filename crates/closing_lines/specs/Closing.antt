@@ -3,6 +3,7 @@ use mathlib.Core.List.{List, _∷_, _++_}
 use Prim.Native.Nat.{ℕ}
 use Rattle.session.specs.declared.Refusal.{Refusal}
 use Rattle.text.specs.Text.{numberText, space, newline}
+pub mod Laws
 
 -- `END`, rules, rows in use, changes of the current set
 abbrev pub endLine : ℕ → ℕ → ℕ → List ℕ

@@ -1,52 +1,15 @@
 // The interview of the complete table on standard input (01: the program). Beside it, on standard error: why a file is refused.
-ghost use Rattle.io.specs.Counts.{Counts};
 use libc::STDERR_FILENO;
 use libc::STDIN_FILENO;
-use refusal_reports::REPORT_BYTES;
-use table_interview::FILE_BYTES;
+use standard_streams::REPORT_BYTES;
 use table_interview::OUTPUT_BYTES;
-
-// So many bytes were read to the start of the buffer; whether a read failed before the input ended or the buffer was full.
-struct Input {
-    pub size: usize,
-    pub failed: bool,
-}
-
-// Reads until the buffer is full, the input ends or a read fails.
-fn read_input(fd: i32, file: &mut [u8]) -> Input
-    ensures { λ r. ⌜ Counts (r .size) (now (file .exit)) ⌝ }
-{
-    let mut size = 0;
-    while size < file.len() {
-        let got = libc::read(fd, &mut file[size..]);
-        let more = io::count(got, &file[size..]);
-        if more == 0 {
-            return Input {
-                size,
-                failed: got < 0,
-            };
-        }
-        size += more;
-    }
-    Input {
-        size,
-        failed: false,
-    }
-}
-
-// Writes what stands at the start of a report to standard error.
-fn say(report: &[u8; REPORT_BYTES], size: usize) {
-    let bytes: &[u8] = report;
-    if size <= bytes.len() {
-        io::write_all(STDERR_FILENO, &bytes[..size]);
-    }
-}
+use table_layout::FILE_BYTES;
 
 // The sentence of a refusal number, on standard error.
 fn say_sentence(number: u64) {
     let mut report = [0u8; REPORT_BYTES];
     let size = refusal_reports::put_sentence_line(&mut report, 0, number);
-    say(&report, size);
+    standard_streams::say(&report, size);
 }
 
 // How the program is used, where a person calls it with no file.
@@ -65,7 +28,7 @@ fn main() {
         return;
     }
     let mut file = [0u8; FILE_BYTES];
-    let input = read_input(STDIN_FILENO, &mut file);
+    let input = standard_streams::read_input(STDIN_FILENO, &mut file);
     if input.failed {
         io::write_all(STDERR_FILENO, b"standard input cannot be read\n");
         return;
@@ -77,7 +40,7 @@ fn main() {
     }
     let mut report = [0u8; REPORT_BYTES];
     let explained = explore_answers::explain(&file, input.size, &mut report);
-    say(&report, explained);
+    standard_streams::say(&report, explained);
     if explained != 0 {
         return;
     }

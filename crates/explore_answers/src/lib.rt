@@ -6,13 +6,13 @@ ghost use lib.ListN.{take, getD};
 ghost use lib.Dec.{eqb, leb};
 ghost use Rattle.text.specs.Page.{Puts};
 ghost use Rattle.refusal_reports.specs.Reports.{explanation};
-ghost use Rattle.table_interview.specs.Run.{Answers};
+ghost use Rattle.explore_answers.specs.Answers.{Answers};
 use handed_output::Told;
 use libc::STDOUT_FILENO;
-use refusal_reports::REPORT_BYTES;
 use session::Session;
-use table_interview::FILE_BYTES;
+use standard_streams::REPORT_BYTES;
 use table_interview::OUTPUT_BYTES;
+use table_layout::FILE_BYTES;
 
 // The output for the first so many bytes of the buffer, with all places of a session lent. What is handed over to be written, line by
 // line, is what the buffer holds in the end.

@@ -4,8 +4,8 @@ use mathlib.Core.List.{List}
 use mathlib.Core.Bool.{true, false}
 use Prim.Native.Nat.{ℕ, _+_, _-_, _≤_}
 use denote.Ref.{now}
-use lib.ListN.{length}
-use Rattle.text.specs.Page.{Buffer, Puts}
+use lib.ListN.{length, take}
+use Rattle.text.specs.Page.{page, text, Buffer, Puts}
 use Rattle.handed_output.specs.declared.Handed.{Handed}
 use Rattle.handed_output.specs.declared.Told.{Told}
 pub mod Laws
@@ -33,3 +33,13 @@ pub record Hands (before : Handed) (bytes : ℕ) (after : Handed) : Type 0 where
 abbrev pub Tells : Buffer → Handed → Told → List ℕ → Type 0
 Tells out before r bytes =
     Puts out 0 (r .end) bytes × (before .bytes + length (now (out .entry)) ≤ mostCounted → Hands before (r .end) (r .handed))
+
+-- the text from the start of the buffer is this one, whole, with the bytes past it as they were, and from nothing on all of it is
+-- handed over
+pub record WritesIn (before out : List ℕ) (r : Told) (bytes : List ℕ) : Type 0 where
+  pub put : page out (r .end) ≡ text (page before 0) bytes
+  pub written : take (r .end) out ≡ bytes
+  pub handed : Hands untold (length bytes) (r .handed)
+
+abbrev pub Writes : Buffer → Told → List ℕ → Type 0
+Writes out r bytes = WritesIn (now (out .entry)) (now (out .exit)) r bytes

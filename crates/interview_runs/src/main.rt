@@ -2,8 +2,8 @@
 // places, all of a session, and once with 2 for rows and 1 for rules.
 use libc::STDOUT_FILENO;
 use session::Session;
-use table_interview::FILE_BYTES;
 use table_interview::OUTPUT_BYTES;
+use table_layout::FILE_BYTES;
 
 fn hold(file: &[u8]) {
     let mut out = [0u8; OUTPUT_BYTES];

@@ -6,7 +6,7 @@ ghost use Rattle.text.specs.Page.{Puts};
 ghost use Rattle.output_lines.specs.Lines.{ruleText, yesLine, noLine, wholeRules, listLines};
 
 // Premise and conclusion, between the words in front of them and those behind.
-fn put_rule(
+pub fn put_rule(
     out: &mut [u8],
     at: usize,
     n: usize,

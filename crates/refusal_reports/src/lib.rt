@@ -4,10 +4,8 @@ ghost use mathlib.Core.Path.{_≡_};
 ghost use Prim.Native.Nat.{_-_};
 ghost use Rattle.text.specs.Page.{Puts};
 ghost use Rattle.refusal_reports.specs.Reports.{phrase, marksText, mistakeText, lineText, expectedText, sentenceLine};
-ghost use Rattle.refusal_reports.specs.Reports.{report, explanation};
-
-// The bytes of a buffer with room for every explanation; the longest has fewer than 260.
-pub const REPORT_BYTES: usize = 512;
+ghost use Rattle.refusal_reports.specs.Reports.{report, explanation, explanationOf};
+ghost use Rattle.table_layout.specs.Layout.{openedOf};
 
 // How far a number is above another; 0 where it is not.
 fn above(number: u64, other: u64) -> u64
@@ -99,11 +97,10 @@ pub fn put_report(out: &mut [u8], at: usize, file: &[u8], number: u64, place: us
     put_sentence_line(out, ended, number)
 }
 
-// Why a file is refused where a complete table is asked for; nothing where it is not.
-pub fn put_explanation(out: &mut [u8], at: usize, file: &[u8]) -> usize
-    ensures { λ r. ⌜ Puts out at r (explanation (now (file .entry))) ⌝ }
+// Why a file is refused, by what it opened as; nothing where it is not.
+fn put_why(out: &mut [u8], at: usize, file: &[u8], opened: table_layout::Opened) -> usize
+    ensures { λ r. ⌜ Puts out at r (explanationOf (now (file .entry)) opened) ⌝ }
 {
-    let opened = complete_tables::open_complete(file);
     match opened {
         table_layout::Opened::Found(_) => at,
         table_layout::Opened::Refused(refusal) => put_report(
@@ -114,4 +111,20 @@ pub fn put_explanation(out: &mut [u8], at: usize, file: &[u8]) -> usize
             refusal.place,
         ),
     }
+}
+
+// Why a file is refused where a complete table is asked for; nothing where it is not.
+pub fn put_explanation(out: &mut [u8], at: usize, file: &[u8]) -> usize
+    ensures { λ r. ⌜ Puts out at r (explanation (now (file .entry))) ⌝ }
+{
+    let opened = complete_tables::open_complete(file);
+    put_why(out, at, file, opened)
+}
+
+// Why a file is refused where unknown marks pass.
+pub fn put_opened(out: &mut [u8], at: usize, file: &[u8]) -> usize
+    ensures { λ r. ⌜ Puts out at r (explanationOf (now (file .entry)) (openedOf (now (file .entry)))) ⌝ }
+{
+    let opened = table_layout::open(file);
+    put_why(out, at, file, opened)
 }

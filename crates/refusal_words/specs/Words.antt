@@ -69,6 +69,7 @@ sentences =
     "Something stands behind the last line of marks: take it away, or correct the counts." ∷
     "A mark is unknown, and complete tables are taken only: write X or a dot for it, or ask an expert in an interview." ∷
     "The text is longer than 65,535 bytes or than the output: lend more bytes, or take fewer rows or shorter names." ∷
+    "The percentage is above 99: ask for 0 to 99." ∷
     []
     )
 

@@ -92,7 +92,8 @@ A name is missing, empty or over 80 bytes: write a line for each row, then a lin
 A line of marks is missing, has too few or too many, or has a byte other than X, x, . and ?: correct the line.
 Something stands behind the last line of marks: take it away, or correct the counts.
 A mark is unknown, and complete tables are taken only: write X or a dot for it, or ask an expert in an interview.
-The text is longer than 65,535 bytes or than the output: lend more bytes, or take fewer rows or shorter names.",
+The text is longer than 65,535 bytes or than the output: lend more bytes, or take fewer rows or shorter names.
+The percentage is above 99: ask for 0 to 99.",
         number,
     )
 }

@@ -4,17 +4,13 @@ ghost use Prim.Native.Nat.{_*_, _≤_};
 ghost use lib.ListN.{length};
 ghost use Rattle.context.specs.Objects.{objectsOf};
 ghost use Rattle.machine.specs.Machine.{opening};
-ghost use Rattle.handed_output.specs.Handing.{Tells};
+ghost use Rattle.handed_output.specs.Handing.{Tells, Writes};
 ghost use Rattle.transcript.specs.Output.{interviewed, outputWith};
 ghost use Rattle.transcript.specs.Core.Along.{Along};
 ghost use Rattle.interview_replies.specs.Holding.{holding, held};
 ghost use Rattle.table_interview.specs.Places.{lent, placesFor, Holds};
 ghost use Rattle.table_replies.specs.Reply.{tabled};
 ghost use Rattle.interview_beat.specs.Running.{remaining};
-ghost use Rattle.table_interview.specs.Run.{Writes};
-
-// The bytes of a buffer for a table file: one more than a file may have, so that a longer one is seen to be longer.
-pub const FILE_BYTES: usize = table_layout::Layout::BYTES + 1;
 
 // The bytes of a buffer that holds every output whole.
 pub const OUTPUT_BYTES: usize = 163840;

@@ -2,7 +2,7 @@
 -- attribute its property.
 use mathlib.Core.Bool.{true, false}
 use mathlib.Core.List.{List, _++_}
-use Prim.Native.Nat.{ℕ}
+use Prim.Native.Nat.{ℕ, suc}
 use lib.ListN.{length, replicate}
 use lib.Dec.{ltb}
 use Rattle.session.specs.Refusals.{refusal}
@@ -22,6 +22,10 @@ pub mod Passed
 -- the most bytes of a table file
 abbrev pub mostBytes : ℕ
 mostBytes = 65535
+
+-- a program reads so many bytes, one more than a file may have: a longer input gives what these give (`Laws`)
+abbrev pub inputMost : ℕ
+inputMost = suc mostBytes
 
 -- the lines: the first five; the objects' names; the attributes' names; the lines of marks
 abbrev pub toAttributeNames : List ℕ → List Kind

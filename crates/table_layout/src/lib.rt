@@ -20,6 +20,9 @@ impl Layout {
     pub const BYTES: usize = 65535;
 }
 
+// The bytes of a buffer for a table file: one more than a file may have, so that a longer one is seen to be longer.
+pub const FILE_BYTES: usize = Layout::BYTES + 1;
+
 // What opening a table file finds.
 pub enum Opened {
     Found(Layout),

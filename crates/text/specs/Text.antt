@@ -4,6 +4,7 @@ use mathlib.Core.Bool.{true, false}
 use Prim.Native.Nat.{ℕ, zero, suc, _+_, _/_, _%_}
 use lib.Dec.{ltb}
 pub mod Digits
+pub mod Laws
 pub mod Cases
 
 -- the decimal digits of a number, no leading zero, at most k of them

@@ -11,7 +11,7 @@ use Rattle.context.specs.Objects.{Object, object, firstRefuting}
 use Rattle.session.specs.Limits.{mostObjects, mostImplications}
 use Rattle.machine.specs.Checks.{Lent, State}
 use Rattle.machine.specs.Machine.{step, accept, reject, Answer, finished, moved, asked, taken, followed, refuted, unrefuted, refused, perform, opened, rejected, Opening, opening}
-use Rattle.table_layout.specs.Layout.{mostBytes, openedOf}
+use Rattle.table_layout.specs.Layout.{openedOf}
 use Rattle.table_rows.specs.Rows.{rowsFrom}
 use Rattle.complete_tables.specs.Complete.{completeOf}
 use Rattle.table_layout.specs.declared.Layout.{Layout}
@@ -103,10 +103,6 @@ outputWith lent file = written lent file (completeOf file (openedOf file))
 -- the program lends all places of a session for rows and rules, and no background
 abbrev pub places : Lent
 places = record { rows = mostObjects * 2; list = mostImplications * 2; background = 0 }
-
--- the program reads so many bytes, one more than a file may have: a longer input gives what these give (`Longer`)
-abbrev pub inputMost : ℕ
-inputMost = suc mostBytes
 
 -- no output is longer than these bytes (`Core/Program`)
 abbrev pub outputMost : ℕ

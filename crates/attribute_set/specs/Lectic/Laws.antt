@@ -1,13 +1,14 @@
--- The lectic order is irreflexive, transitive and total, and a proper subset is earlier; then the laws of `raise`.
+-- The lectic order is irreflexive, transitive and total, and a proper subset is earlier; then the laws of `raise`,
+-- and of a set of one attribute.
 use mathlib.Core.Path.{_≡_, sym, ap, _∙_, subst}
 use mathlib.Core.Logic.{_⊎_, inl, inr, ⊎-elim}
 use Prim.Native.Nat.{ℕ, zero, suc, _+_, _-_, _*_, _/_, _%_, _^_, _≤_, _<_}
-use native.Mathlib.Nat.{mod-lt, mod-eq-of-lt, one-mul, lt-of-lt-of-le, pow-suc}
+use native.Mathlib.Nat.{div-self, mod-lt, mod-eq-of-lt, one-mul, lt-of-lt-of-le, pow-suc}
 use native.Mathlib.Omega.{arith}
 use lib.Pow.{pow-add, field, mod-mod-pow, high, low, pow-mono, pow-pos}
 use lib.Dec.{lit<}
 use Rattle.attribute_set.specs.Sets.{digit, In, Sub}
-use Rattle.attribute_set.specs.Sets.Laws.{lt-or-le, digit-high, member-cases, ext}
+use Rattle.attribute_set.specs.Sets.Laws.{lt-or-le, digit-none, digit-high, member-cases, ext}
 use Rattle.attribute_set.specs.Lectic.{Before, below, raise}
 
 pub before-irreflexive : (x : ℕ) → Before x x → ⊥
@@ -112,3 +113,23 @@ module _ (x j : ℕ) where
       ap (λ (k : ℕ). 2 ^ j + k) (mod-eq-of-lt (lt-of-lt-of-le hx (pow-mono h)))
       ∙ ap (λ (k : ℕ). k + x) (ap (λ (k : ℕ). 2 ^ k) e ∙ pow-add 2 (j - w) w) in
       ap (λ (k : ℕ). k % 2 ^ w) f ∙ low (2 ^ (j - w)) w hx
+
+-- ---- a set of one attribute
+
+module _ (i : ℕ) where
+  pub single-raise : raise 0 i ≡ 2 ^ i
+  single-raise = omega (arith, mod-eq-of-lt (pow-pos i))
+
+  pub single-at : In i (2 ^ i)
+  single-at = rw (div-self (pow-pos i))
+
+  pub single-low : (k : ℕ) → k < i → digit (2 ^ i) k ≡ 0
+  single-low k h = ap (λ (w : ℕ). digit w k) (sym single-raise) ∙ raise-low 0 i k h ∙ digit-none k
+
+  pub single-high : (k : ℕ) → i < k → digit (2 ^ i) k ≡ 0
+  single-high k h = ap (λ (w : ℕ). digit w k) (sym single-raise) ∙ raise-high 0 i k h
+
+  pub single-only : (k : ℕ) → In k (2 ^ i) → k ≡ i
+  single-only k m =
+      ⊎-elim (λ l. absurd (omega (arith, single-low k l, m)))
+      (λ l. ⊎-elim (λ u. absurd (omega (arith, single-high k u, m))) (λ u. omega arith) (lt-or-le i k)) (lt-or-le k i)

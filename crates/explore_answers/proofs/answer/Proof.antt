@@ -4,10 +4,12 @@ use Prim.Native.Nat.{_≤_}
 use native.Mathlib.Omega.{arith}
 use lib.ListN.{length}
 use lib.Seq.{length-take-le}
-use Rattle.transcript.specs.Output.{inputMost, output}
-use Rattle.table_interview.specs.Run.{WritesIn}
-use Rattle.table_interview.specs.Run.Laws.{input-answered}
-use Rattle.explore_answers.specs.First.{first-bytes}
+use Rattle.table_layout.specs.Layout.{inputMost}
+use Rattle.transcript.specs.Output.{output}
+use Rattle.transcript.specs.Output.Longer.{output-first}
+use Rattle.handed_output.specs.Handing.{WritesIn}
+use Rattle.standard_streams.specs.Answers.{input-answered}
+use Rattle.standard_streams.specs.First.{first-bytes}
 use borrow.Author.Needs.{needs}
 use Rattle.explore_answers.proofs.answer.Statement.{statement}
 use Rattle.explore_answers.proofs.answer.Tie as tie
@@ -27,7 +29,7 @@ returns c =
     let d = c .before .before .before in
     let a = start d .args in
     let held = c .hold .last .1 .1 .1 .0 in
-    input-answered (a .file .now) (a .out .now) held (a .size) (c .hold .result) (sized d)
+    input-answered output inputMost output-first (a .file .now) (a .out .now) held (a .size) (c .hold .result) (sized d)
     (subst (λ bs. WritesIn (a .out .now) held (c .hold .result) (output bs))
     (first-bytes (a .size) (d .smaller .result) (a .file .now) (omega (arith, sized d, d .smaller .ensures))) (c .hold .ensures))
 

@@ -4,9 +4,9 @@ use native.Mathlib.Omega.{arith}
 use lib.ListN.{length}
 use lib.Seq.{length-take-le}
 use Rattle.text.specs.Page.{page, text}
-use Rattle.transcript.specs.Output.{inputMost}
+use Rattle.table_layout.specs.Layout.{inputMost}
 use Rattle.refusal_reports.specs.Reports.{explanation}
-use Rattle.explore_answers.specs.First.{first-bytes}
+use Rattle.standard_streams.specs.First.{first-bytes}
 use borrow.Author.Needs.{needs}
 use Rattle.explore_answers.proofs.explain.Statement.{statement}
 use Rattle.explore_answers.proofs.explain.Tie as tie

@@ -1,7 +1,6 @@
 -- What the call wrote lies in the buffer, and is handed over whole.
-use native.Mathlib.Omega.{arith}
 use Rattle.closing_lines.specs.Closing.{refusalLine}
-use Rattle.handed_output.specs.Handing.Laws.{hands-none, hands-on, text-shown, text-kept}
+use Rattle.handed_output.specs.Handing.Laws.{hands-text}
 use borrow.Author.Needs.{needs}
 use Rattle.handed_output.proofs.write_refusal.Statement.{statement}
 use Rattle.handed_output.proofs.write_refusal.Tie as tie
@@ -18,10 +17,7 @@ returns c =
     let d = written c in
     let w = d .put-refusal in
     let a = start d .args in
-    let h = a .before in
-    let inside = text-shown (a .out .now) _ (w .result) (refusalLine (a .refusal)) (w .ensures) in
-    let same = text-kept (a .out .now) _ (w .result) (refusalLine (a .refusal)) (w .ensures) in
-    (w .ensures, λ fits. hands-on h h (c .hand-over .result) 0 (w .result) _ (omega arith) (inside .1) (omega (arith, same, fits)) (hands-none h) (c .hand-over .ensures))
+    (w .ensures, hands-text (a .before) (c .hand-over .result) (a .out .now) _ (w .result) (refusalLine (a .refusal)) (w .ensures) (c .hand-over .ensures))
 
 pub write-refusal-spec : {M : Type 1} → statement M
 write-refusal-spec =

@@ -1,35 +1,24 @@
--- What is found decides: nothing is said of a table, and the report of a refusal.
-use mathlib.Core.Path.{sym, ap, _∙_}
+-- What the file opens as is the definition's.
+use mathlib.Core.Path.{ap, _∙_}
 use borrow.Author.Needs.{needs}
 use Rattle.text.specs.Page.{page, text}
-use Rattle.text.specs.Page.Laws.{text-end}
 use Rattle.refusal_reports.specs.Reports.{explanationOf}
 use Rattle.refusal_reports.proofs.put_explanation.Statement.{statement}
 use Rattle.refusal_reports.proofs.put_explanation.Tie as tie
 
 returns : tie.Need-returns
 returns c =
-    let o = c .before .before in
-    let a = o .before .before .before .args in
-    text-end _ _ (ap (explanationOf (a .file .now)) (sym (o .open-complete .ensures) ∙ c .enum-told .given .1))
-
-returns-2 : tie.Need-returns-2
-returns-2 c =
     let d = c .before .before in
-    let r = d .before .before .before in
-    let o = r .before .before in
+    let o = d .before .before in
     let a = o .before .before .before .args in
-    d .put-report .ensures
-    ∙ ap (λ f. text (page (a .out .now) (a .at)) (explanationOf (a .file .now) f)) (sym (r .opened .given .1) ∙ o .open-complete .ensures)
+    d .put-why .ensures
+    ∙ ap (λ f. text (page (a .out .now) (a .at)) (explanationOf (a .file .now) f)) (o .open-complete .ensures)
 
 pub put-explanation-spec : {M : Type 1} → statement M
 put-explanation-spec =
     tie.close
     (tie.spec
     (λ c κs. search needs)
-    (λ c. search needs)
-    (λ c. search needs)
     (λ c κs. search needs)
-    returns
     (λ c. search needs)
-    returns-2)
+    returns)

@@ -7,14 +7,14 @@ pub sentence-1 : sentence 1 ≡ bytes "The session has no property, or more than
 unfolding bytes joined lineNumber
 sentence-1 = refl
 
-pub sentence-30 : sentence 30 ≡ bytes "The text is longer than 65,535 bytes or than the output: lend more bytes, or take fewer rows or shorter names."
+pub sentence-31 : sentence 31 ≡ bytes "The percentage is above 99: ask for 0 to 99."
 unfolding bytes joined lineNumber
-sentence-30 = refl
+sentence-31 = refl
 
 pub sentence-13 : sentence 13 ≡ []
 unfolding bytes joined lineNumber
 sentence-13 = refl
 
-pub sentence-31 : sentence 31 ≡ []
+pub sentence-32 : sentence 32 ≡ []
 unfolding bytes joined lineNumber
-sentence-31 = refl
+sentence-32 = refl

@@ -7,7 +7,7 @@ use lib.Dec.{lit≤}
 use Rattle.session.specs.Limits.{mostObjects, mostImplications}
 use Rattle.table_interview.specs.Places.{lentOf, placesFor, ReadComplete}
 use Rattle.table_interview.specs.Places.Laws.{table-read, read-holds, words-taken, places-taken}
-use Rattle.table_interview.specs.Run.Laws.{output-written, table-written}
+use Rattle.table_interview.specs.Run.{output-written, table-written}
 use borrow.Author.Needs.{needs}
 use Rattle.table_interview.proofs.hold.Statement.{statement}
 use Rattle.table_interview.proofs.hold.Tie as tie

@@ -31,12 +31,13 @@ use Rattle.table_layout.specs.declared.Opened.{Opened}
 use Rattle.table_layout.specs.declared.Opened.the-variants.{Found, Refused}
 use Rattle.session.specs.Refusals.{refusal}
 use Rattle.closing_lines.specs.Closing.{refusalLine}
+use Rattle.closing_lines.specs.Closing.Laws.{refusal-length}
 use Rattle.transcript.specs.Output.{beats, enough, tableOf, interviewed, written, outputWith, places, outputMost, output}
 use Rattle.transcript.specs.Ending.{Concluded, Full, ListFull}
 use Rattle.transcript.specs.Core.Kept.{opened-along}
 use Rattle.transcript.specs.Core.Conclusion.{conclusion}
 use Rattle.transcript.specs.Core.Rows.{rows-suffice}
-use Rattle.transcript.specs.Core.Size.{refusal-length, size}
+use Rattle.transcript.specs.Core.Size.{size}
 
 pub program-refuses : (lent : Lent) (file : List ℕ) (r : Refusal) → completeOf file (openedOf file) ≡ Refused r
     → outputWith lent file ≡ refusalLine (refusal (r .number) (r .place))

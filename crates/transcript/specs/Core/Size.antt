@@ -16,35 +16,17 @@ use Rattle.session.specs.Limits.{badLength, mostAttributes, mostObjects, mostIm
 use Rattle.machine.specs.Checks.{State, reachOf, question}
 use Rattle.machine.specs.Checks.Laws.{or-false}
 use Rattle.machine.specs.Machine.{afterMove, afterYes, afterNo}
-use Rattle.text.specs.Text.{digits, numberText, setText}
+use Rattle.text.specs.Text.{numberText}
+use Rattle.text.specs.Text.Digits.Laws.{number-short}
 use Rattle.output_lines.specs.Lines.{ruleText, yesLine, noLine, listLines}
+use Rattle.output_lines.specs.Lines.Laws.{rule-length}
 use Rattle.closing_lines.specs.Closing.{endLine, refusalLine}
+use Rattle.closing_lines.specs.Closing.Laws.{refusal-length}
 use Rattle.transcript.specs.Output.{Beat, more, last, beat, beats, outputMost}
 use Rattle.transcript.specs.Core.{counted, noPlace, coreNo, coreYes, coreReply, coreBeat}
 use Rattle.transcript.specs.Core.Along.{Along}
 use Rattle.transcript.specs.Core.Beats.{reply-cases, core-beat}
 use Rattle.transcript.specs.Core.Kept.{core-along}
-
--- ---- the parts of a line
-
-digits-length : (k n : ℕ) → length (digits k n) ≤ k
-unfolding digits
-digits-length zero n = omega arith
-digits-length (suc k) n = go (ltb n 10) (digits-length k (n / 10))
-  where
-    go : (t : Bool) → length (digits k (n / 10)) ≤ k
-        → length {A = ℕ} (elim t [ true ↦ (48 + n) ∷ [] | false ↦ digits k (n / 10) ++ ((48 + n % 10) ∷ []) ]) ≤ suc k
-    go true h = omega arith
-    go false h = rw length-append (omega arith)
-
-set-length : (n w : ℕ) → length (setText n w) ≡ n
-unfolding setText
-set-length zero w = refl
-set-length (suc n) w = ap suc (set-length n (w / 2))
-
-rule-length : (n : ℕ) (r : Implication ℕ) → length (ruleText n r) ≡ n + suc n
-rule-length n r =
-    length-append (setText n (r .premise)) _ ∙ rw (set-length n (r .premise), set-length n (r .conclusion))
 
 -- ---- the lines
 
@@ -54,7 +36,7 @@ module _ (n : ℕ) (few : n ≤ mostAttributes) where
 
   no-length : (q : Implication ℕ) (row : ℕ) → length (noLine n q row) ≤ 160
   no-length q row =
-      rw (length-append (ruleText n q), rule-length n q, length-append (numberText row)) (omega (arith, digits-length 20 row))
+      rw (length-append (ruleText n q), rule-length n q, length-append (numberText row)) (omega (arith, number-short row))
 
   list-length : (rs : List (Implication ℕ)) → length (listLines n rs) ≤ length rs * 140
   unfolding listLines
@@ -65,12 +47,7 @@ module _ (n : ℕ) (few : n ≤ mostAttributes) where
 end-length : (rules rows changes : ℕ) → length (endLine rules rows changes) ≤ 80
 end-length rules rows changes =
     rw (length-append (numberText rules), length-append (numberText rows), length-append (numberText changes))
-    (omega (arith, digits-length 20 rules, digits-length 20 rows, digits-length 20 changes))
-
-pub refusal-length : (r : Refusal) → length (refusalLine r) ≤ 50
-refusal-length r =
-    rw (length-append (numberText (r .number)), length-append (numberText (r .place)))
-    (omega (arith, digits-length 20 (r .number), digits-length 20 (r .place)))
+    (omega (arith, number-short rules, number-short rows, number-short changes))
 
 -- ---- a beat
 

@@ -4,20 +4,21 @@ use mathlib.Core.Bool.{true, true≢false}
 use mathlib.Core.Logic.{inl, inr}
 use mathlib.Core.List.{List}
 use mathlib.Core.Option.{Option, none, some}
-use Prim.Native.Nat.{ℕ, _+_, _<_}
+use Prim.Native.Nat.{ℕ, _+_}
 use native.Mathlib.Omega.{arith}
 use lib.ListN.{length}
 use Rattle.theory.specs.Lists.{All}
 use Rattle.theory.specs.Lists.Laws.{all-nil, all-cons, all-append}
 use Rattle.session.specs.declared.Refusal.{Refusal}
 use Rattle.session.specs.Refusals.{refusal}
-use Rattle.context.specs.Objects.{objectsOf, markedTwice}
 use Rattle.machine.specs.Checks.{Check, firstFailing}
-use Rattle.machine.specs.Facts.Refused.{lowest-row, failing-check}
+use Rattle.machine.specs.Facts.Refused.{failing-check}
 use Rattle.line_walk.specs.declared.Walk.{Walk}
 use Rattle.line_walk.specs.declared.Walk.the-variants.{Failed, At}
 use Rattle.table_walk.specs.Walk.{placeOf}
 use Rattle.row_checks.specs.Rows.{rowChecks}
+use Rattle.row_checks.specs.Rows.Places.{RightRow}
+use Rattle.row_checks.specs.Rows.Laws.{right-rows}
 use Rattle.table_text.specs.Table.{textOf}
 use Rattle.table_writing.specs.declared.Written.the-variants.{Refused}
 use Rattle.table_writing.specs.Writing.{namesWalk, isFailed, writeChecks, writtenBy, writing}
@@ -30,20 +31,13 @@ module _ (n used : ℕ) (words names : List ℕ) where
   abbrev Right : Check → Type 0
   Right c = c .fails ≡ true → RightPlace n used words names (refusal (c .number) (c .place))
 
-  small : (k : ℕ) → 0 < k → k < 5 → RightPlace n used words names (refusal k 0)
-  small k h i = record { number = inl (h, omega arith); five = λ e. absurd (omega arith); name = λ e. absurd (omega arith); other = λ a b. refl }
-
-  row-places : All Right (rowChecks n used words)
-  unfolding rowChecks
-  row-places =
-      all-cons (λ f. small 1 (omega arith) (omega arith)) (all-cons (λ f. small 2 (omega arith) (omega arith))
-      (all-cons (λ f. small 3 (omega arith) (omega arith)) (all-cons (λ f. small 4 (omega arith) (omega arith))
-      (all-cons (λ f. record {
-        number = inl (omega arith, omega arith);
-        five = λ e. lowest-row markedTwice (objectsOf used words) f;
-        name = λ e. absurd (omega arith);
-        other = λ a b. absurd (a refl);
-      }) (all-nil _)))))
+  row-place : (r : Refusal) → RightRow used words r → RightPlace n used words names r
+  row-place r p = record {
+    number = inl (p .number);
+    five = p .five;
+    name = λ e. absurd (omega (arith, p .number));
+    other = λ a b. p .other a;
+  }
 
   name-place : isFailed (namesWalk n used names) ≡ true → RightPlace n used words names (refusal 26 (placeOf (namesWalk n used names)))
   name-place f = record {
@@ -60,7 +54,7 @@ module _ (n used : ℕ) (words names : List ℕ) where
   places : (room : ℕ) → All Right (writeChecks n used words names room)
   unfolding writeChecks
   places room =
-      all-append (rowChecks n used words) _ row-places
+      all-append (rowChecks n used words) _ (λ c m f. row-place _ (right-rows n used words c m f))
       (all-cons name-place (all-cons (λ f. record {
         number = inr (inr refl);
         five = λ e. absurd (omega arith);

@@ -1,0 +1,49 @@
+-- Nearly always (02, request 3/13): the attributes (01: properties) outside a premise that more than so many per cent of the rows with the
+-- premise have. Only a written yes counts: unknown is not yes. `Theorem` says what the set holds, with both counts as lengths of lists
+-- of rows.
+use mathlib.Core.Bool.{Bool, true, false}
+use mathlib.Core.List.{List, [], _∷_}
+use Prim.Native.Nat.{ℕ, zero, suc, _+_, _*_, _/_, _^_, _≤_}
+use lib.ListN.{length}
+use lib.Bits.{bitOr}
+use lib.Dec.{ltb}
+use Rattle.session.specs.Limits.{mostAttributes, mostObjects}
+use Rattle.attribute_set.specs.Sets.{inside, without}
+use Rattle.context.specs.Objects.{Object}
+pub mod Laws
+pub mod Theorem
+pub mod Cases
+pub mod Counting
+
+-- the rows whose yes marks contain a set
+unfoldable pub having : ℕ → List Object → List Object
+having s [] = []
+having s (o ∷ os) = elim (inside s (o .yes-marks)) [ true ↦ o ∷ having s os | false ↦ having s os ]
+
+-- how many these are
+abbrev pub support : ℕ → List Object → ℕ
+support s os = length (having s os)
+
+-- the percentage times the rows with the premise is exceeded by 100 times the rows with the premise and attribute p
+unfoldable pub exceeds : ℕ → List Object → ℕ → ℕ → Bool
+exceeds percent os premise p = ltb (percent * support premise os) (100 * support (bitOr premise (2 ^ p)) os)
+
+-- the attributes below n that pass a test
+unfoldable pub passing : (ℕ → Bool) → ℕ → ℕ
+passing f zero = 0
+passing f (suc n) = elim (f n) [ true ↦ 2 ^ n + passing f n | false ↦ passing f n ]
+
+-- those of M outside the premise that the rows with the premise nearly always have
+unfoldable pub nearlyAlways : ℕ → ℕ → List Object → ℕ → ℕ
+nearlyAlways n percent os premise = without (passing (exceeds percent os premise) n) premise
+
+-- a percentage is at most so many
+abbrev pub mostPercent : ℕ
+mostPercent = 99
+
+-- so many attributes, rows in use, row words and per cent: as checks 1 to 3 and 31 leave them
+pub record InRange (n used words percent : ℕ) : Type 0 where
+  pub attributes : n ≤ mostAttributes
+  pub objects : used ≤ mostObjects
+  pub places : used ≤ words / 2
+  pub percentage : percent ≤ mostPercent

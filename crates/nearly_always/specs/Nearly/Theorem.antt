@@ -1,0 +1,111 @@
+-- What is listed, in 02's words: an attribute (01: property) is in the set just if it is one of the first n, is not in the premise, and 100
+-- times the number of rows whose yes marks contain premise and attribute exceeds the percentage times the number of those whose yes marks
+-- contain the premise. The rows are counted as the lengths of two lists, each of which has just those rows of the table, in their order
+-- (`listed`). Nothing is listed for a premise that no row has (`none-listed`).
+use mathlib.Core.Path.{_≡_, refl, sym, ap, _∙_}
+use mathlib.Core.Bool.{Bool, true, false}
+use mathlib.Core.List.{List, [], _∷_}
+use mathlib.Core.Logic.{⊎-elim}
+use Prim.Native.Nat.{ℕ, _*_, _^_, _<_}
+use native.Mathlib.Omega.{arith}
+use lib.ListN.{length}
+use lib.Bits.{bitOr}
+use lib.Dec.{eqb}
+use borrow.Author.Tests.{lt-ltb, ltb-true, eqb-true, eqb-false}
+use Rattle.attribute_set.specs.Sets.{In, Sub, inside}
+use Rattle.attribute_set.specs.Sets.Laws.{digit-without, digit-lt, member-cases, some-member, inside-sub, outside-sub, sub-inside, not-inside}
+use Rattle.context.specs.Objects.{Object}
+use Rattle.nearly_always.specs.Nearly.{having, support, exceeds, passing, nearlyAlways}
+use Rattle.nearly_always.specs.Nearly.Laws.{support-fewer, passing-in, passing-passes, passing-below}
+
+-- the second list has just those rows of the first whose yes marks contain a set, in their order
+pub data Picks (s : ℕ) : List Object → List Object → Type 0 where
+  none : Picks s [] []
+  picked : (o : Object) {os l : List Object} → Sub s (o .yes-marks) → Picks s os l → Picks s (o ∷ os) (o ∷ l)
+  passed : (o : Object) {os l : List Object} → (Sub s (o .yes-marks) → ⊥) → Picks s os l → Picks s (o ∷ os) l
+
+-- attribute p is one of the first n, outside the premise, and more than so many per cent of the rows with the premise have it
+pub record Nearly (n percent : ℕ) (os : List Object) (premise p : ℕ) : Type 0 where
+  pub of-M : p < n
+  pub outside : In p premise → ⊥
+  pub exceeding : (all both : List Object) → Picks premise os all → Picks (bitOr premise (2 ^ p)) os both → percent * length all < 100 * length both
+
+-- the set has just these attributes
+pub record Lists (n percent : ℕ) (os : List Object) (premise set : ℕ) : Type 0 where
+  pub only : (p : ℕ) → In p set → Nearly n percent os premise p
+  pub every : (p : ℕ) → Nearly n percent os premise p → In p set
+
+-- ---- the list of rows
+
+pub picks : (s : ℕ) (os : List Object) → Picks s os (having s os)
+unfolding having
+picks s [] = none
+picks s (o ∷ os) = go (inside s (o .yes-marks)) refl (picks s os)
+  where
+    go : (b : Bool) → inside s (o .yes-marks) ≡ b → Picks s os (having s os)
+        → Picks s (o ∷ os) (elim b [ true ↦ o ∷ having s os | false ↦ having s os ])
+    go true e p = picked o (inside-sub s (o .yes-marks) e) p
+    go false e p = passed o (outside-sub s (o .yes-marks) e) p
+
+-- no other list is one of these rows
+picks-having : (s : ℕ) {os l : List Object} → Picks s os l → l ≡ having s os
+unfolding having
+picks-having s none = refl
+picks-having s (picked o h p) = rw (sub-inside h, having) (ap (λ l. o ∷ l) (picks-having s p))
+picks-having s (passed o h p) = rw (not-inside h, having) (picks-having s p)
+
+pub picks-same : (s : ℕ) (os l m : List Object) → Picks s os l → Picks s os m → l ≡ m
+picks-same s os l m p q = picks-having s p ∙ sym (picks-having s q)
+
+-- ---- the set
+
+-- a set without members
+empty : (s : ℕ) → ((p : ℕ) → In p s → ⊥) → s ≡ 0
+empty s h = go (eqb s 0) refl
+  where
+    go : (b : Bool) → eqb s 0 ≡ b → s ≡ 0
+    go true e = eqb-true s 0 e
+    go false e = let m = some-member s (eqb-false s 0 e) in absurd (h (m .0) (m .1))
+
+module _ (n percent : ℕ) (os : List Object) (premise : ℕ) where
+  test : (p : ℕ) → exceeds percent os premise p ≡ true → percent * support premise os < 100 * support (bitOr premise (2 ^ p)) os
+  unfolding exceeds
+  test p e = ltb-true _ _ e
+
+  passes : (p : ℕ) → percent * support premise os < 100 * support (bitOr premise (2 ^ p)) os → exceeds percent os premise p ≡ true
+  unfolding exceeds
+  passes p h = lt-ltb _ _ h
+
+  outside-premise : (p : ℕ) → In p (nearlyAlways n percent os premise) → In p (passing (exceeds percent os premise) n) × (In p premise → ⊥)
+  unfolding nearlyAlways
+  outside-premise p h =
+      let w = digit-without (passing (exceeds percent os premise) n) premise p in
+      (omega (arith, w, h, digit-lt (passing (exceeds percent os premise) n) p), λ m. omega (arith, w, h, m, digit-lt (passing (exceeds percent os premise) n) p))
+
+  inside-set : (p : ℕ) → In p (passing (exceeds percent os premise) n) → (In p premise → ⊥) → In p (nearlyAlways n percent os premise)
+  unfolding nearlyAlways
+  inside-set p h out =
+      let w = digit-without (passing (exceeds percent os premise) n) premise p in
+      ⊎-elim (λ m. absurd (out m)) (λ z. omega (arith, w, h, z)) (member-cases premise p)
+
+  pub listed : Lists n percent os premise (nearlyAlways n percent os premise)
+  listed = record {
+    only = λ p h.
+        let m = outside-premise p h in
+        let f = exceeds percent os premise in
+        record {
+          of-M = passing-below f n p (m .0);
+          outside = m .1;
+          exceeding = λ all both a b. rw (picks-having premise a, picks-having (bitOr premise (2 ^ p)) b) (test p (passing-passes f n p (m .0)));
+        };
+    every = λ p h.
+        inside-set p (passing-in (exceeds percent os premise) n p (h .of-M)
+        (passes p (h .exceeding (having premise os) (having (bitOr premise (2 ^ p)) os) (picks premise os) (picks (bitOr premise (2 ^ p)) os)))) (h .outside);
+  }
+
+  -- the set is empty where no row has the premise
+  pub none-listed : Picks premise os [] → nearlyAlways n percent os premise ≡ 0
+  none-listed h = empty (nearlyAlways n percent os premise) λ p m.
+      let none : support premise os ≡ 0 = ap length (sym (picks-having premise h)) in
+      let more = test p (passing-passes (exceeds percent os premise) n p (outside-premise p m .0)) in
+      absurd (omega (arith, more, support-fewer premise p os, none))

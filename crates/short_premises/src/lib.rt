@@ -1,0 +1,1 @@
+// The premises that are listed have no code here: they stand in specs/.
