@@ -17,11 +17,12 @@
 enum { ROW_WORDS = 2 * ZUNDRAFL_MOST_ROWS, RULE_WORDS = 2 * ZUNDRAFL_MOST_RULES, MOST_NAME = 80, LINE = 8192 };
 
 static const char USAGE[] =
-    "usage: interview [--background FILE] [--log FILE] [--save FILE] TABLE\n"
+    "usage: interview [--background FILE] [--log FILE] [--save FILE] [--nearly PERCENT] TABLE\n"
     "  TABLE       a table in Burmeister's layout; X yes, . no, ? unknown\n"
     "  background  rules that hold from the start, one a line: has fur, flies -> breathes air\n"
     "  log         the interview so far is taken up from it, and written to it as it goes\n"
     "  save        the table with the rows of your replies is written to it at the end\n"
+    "  nearly      shown first: what more than this percentage of the rows with a property have too, and the rows that stand in the way\n"
     "Answer a question with yes (y), or with no (n) and a row of marks that refutes it; behind the marks the row may get a name.\n";
 
 static uint8_t file[ZUNDRAFL_MOST_BYTES + 1];
@@ -55,6 +56,14 @@ static void show_set(FILE *to, uint64_t set) {
 static void show_row(FILE *to, size_t row) {
     if (row < layout.objects || object_names[row][0]) fprintf(to, "row %zu (%s)", row + 1, object_names[row]);
     else fprintf(to, "row %zu (the %zu. of your counterexamples)", row + 1, row + 1 - layout.objects);
+}
+
+/* The name of a row as the table that is saved has it. */
+static const char *saved_name(size_t row) {
+    static char number[MOST_NAME + 1];
+    if (row < layout.objects || object_names[row][0]) return object_names[row];
+    sprintf(number, "row %zu", row + 1);
+    return number;
 }
 
 static void show_marks(FILE *to, uint64_t yes, uint64_t no) {
@@ -160,6 +169,12 @@ static int read_set(char *text, uint64_t *set) {
     return 1;
 }
 
+/* A number in digits; one too long for a word is the largest word. */
+static int read_number(const char *text, uint64_t *number) {
+    *number = strtoull(text, NULL, 10);
+    return *text && strspn(text, "0123456789") == strlen(text);
+}
+
 static void read_table(const char *path) {
     FILE *in = fopen(path, "rb");
     if (!in) fail("cannot be read", path);
@@ -251,6 +266,42 @@ static int take_up(const char *path) {
     return answer.code == ZUNDRAFL_TAKEN;
 }
 
+/* Shows the rows with the premise whose mark for the property is not yes: with `no` the property those marked no, with 0 those unknown.
+ * 0 where there is none. */
+static int show_in_way(const char *before, uint64_t premise, uint64_t property, uint64_t no) {
+    int shown = 0;
+    for (size_t i = 0; i < session.rows; i++) {
+        if ((rows[2 * i] & (premise | property)) != premise || (rows[2 * i + 1] & property) != no) continue;
+        printf("%s%s", shown ? ", " : before, saved_name(i));
+        shown = 1;
+    }
+    return shown;
+}
+
+/* Shows what nearly every row with a property has too, and the rows that stand in the way; 0 where that is refused. With premises of two
+ * properties the list gets long: the program `nearly` has them. */
+static int show_nearly(uint64_t percent) {
+    int listed = 0;
+    for (size_t i = 0; i < layout.attributes; i++) {
+        uint64_t premise = (uint64_t)1 << i;
+        zundrafl_nearly(layout.attributes, session.rows, rows, ROW_WORDS, premise, percent, &answer);
+        if (answer.code != ZUNDRAFL_TAKEN) return 0;
+        if (i == 0) printf("Nearly always (more than %d per cent):", (int)percent);
+        for (size_t j = 0; j < layout.attributes; j++) {
+            uint64_t property = (uint64_t)1 << j;
+            int lacking, unknown;
+            if (!(answer.first & property)) continue;
+            printf("%s%s -> %s", listed ? "" : "\n", attribute_names[i], attribute_names[j]);
+            lacking = show_in_way(", but not: ", premise, property, property);
+            unknown = show_in_way(lacking ? "; not known for: " : ", not known for: ", premise, property, 0);
+            puts(lacking || unknown ? "" : ", always so far");
+            listed = 1;
+        }
+    }
+    puts(listed ? "" : " nothing so far\n");
+    return 1;
+}
+
 /* One reply to the question; 0 at the end of the replies. */
 static int reply(uint64_t premise, uint64_t conclusion) {
     char line[LINE], *rest = line, *word;
@@ -296,10 +347,7 @@ static int save(const char *path) {
     size_t length = layout.attribute_names - layout.object_names;
     FILE *out;
     memcpy(names, file + layout.object_names, length);
-    for (size_t i = layout.objects; i < session.rows; i++) {
-        char *name = (char *)names + length;
-        length += (size_t)(object_names[i][0] ? sprintf(name, "%s\n", object_names[i]) : sprintf(name, "row %zu\n", i + 1));
-    }
+    for (size_t i = layout.objects; i < session.rows; i++) length += (size_t)sprintf((char *)names + length, "%s\n", saved_name(i));
     memcpy(names + length, file + layout.attribute_names, bytes - layout.attribute_names);
     length += bytes - layout.attribute_names;
     zundrafl_write_table(layout.attributes, session.rows, rows, ROW_WORDS, names, length, text, sizeof text, &answer);
@@ -310,7 +358,8 @@ static int save(const char *path) {
 }
 
 int main(int argc, char **argv) {
-    const char *table = NULL, *rules = NULL, *log = NULL, *saved = NULL;
+    const char *table = NULL, *rules = NULL, *log = NULL, *saved = NULL, *nearly = NULL;
+    uint64_t percent = 0;
     int finished;
     for (int i = 1; i < argc; i++)
         if (strcmp(argv[i], "--help") == 0) return fputs(USAGE, stdout), 0;
@@ -318,6 +367,7 @@ int main(int argc, char **argv) {
         if (strcmp(argv[i], "--background") == 0 && i + 1 < argc) rules = argv[++i];
         else if (strcmp(argv[i], "--log") == 0 && i + 1 < argc) log = argv[++i];
         else if (strcmp(argv[i], "--save") == 0 && i + 1 < argc) saved = argv[++i];
+        else if (strcmp(argv[i], "--nearly") == 0 && i + 1 < argc && read_number(argv[i + 1], &percent)) nearly = argv[++i];
         else if (argv[i][0] != '-' && !table) table = argv[i];
         else return fputs(USAGE, stderr), 2;
     }
@@ -325,6 +375,7 @@ int main(int argc, char **argv) {
     read_table(table);
     if (rules) read_background(rules);
     if (!take_up(log)) return refused();
+    if (nearly && !show_nearly(percent)) return refused();
     for (;;) {
         zundrafl_step(&session, rows, ROW_WORDS, list, RULE_WORDS, background, background_words, &answer);
         if (zundrafl_is_refusal(&answer)) return refused();

@@ -20,11 +20,12 @@ const RULE_WORDS: usize = 2 * MOST_RULES;
 const MOST_NAME: usize = 80;
 
 const USAGE: &str = "\
-usage: interview [--background FILE] [--log FILE] [--save FILE] TABLE
+usage: interview [--background FILE] [--log FILE] [--save FILE] [--nearly PERCENT] TABLE
   TABLE       a table in Burmeister's layout; X yes, . no, ? unknown
   background  rules that hold from the start, one a line: has fur, flies -> breathes air
   log         the interview so far is taken up from it, and written to it as it goes
   save        the table with the rows of your replies is written to it at the end
+  nearly      shown first: what more than this percentage of the rows with a property have too, and the rows that stand in the way
 Answer a question with yes (y), or with no (n) and a row of marks that refutes it; behind the marks the row may get a name.
 ";
 
@@ -207,6 +208,15 @@ impl Interview {
         format!("row {} ({name})", row + 1)
     }
 
+    /// The name of a row as the table that is saved has it.
+    fn saved_name(&self, row: usize) -> String {
+        match row.checked_sub(self.objects.len()) {
+            None => self.objects[row].clone(),
+            Some(filed) if self.filed[filed].is_empty() => format!("row {}", row + 1),
+            Some(filed) => String::from_utf8_lossy(&self.filed[filed]).into_owned(),
+        }
+    }
+
     /// The closure of a set under the rules in force and one rule more.
     fn closure(&self, mut set: u64, rule: [u64; 2]) -> u64 {
         loop {
@@ -245,6 +255,36 @@ impl Interview {
             },
             1,
         )
+    }
+
+    /// The rows with the premise whose mark for the property is not yes: those marked no, then those unknown.
+    fn in_way(&self, premise: u64, property: u64) -> String {
+        let rows = (0..self.session.rows).filter(|row| self.rows[2 * row] & (premise | property) == premise);
+        let (lacking, unknown): (Vec<_>, Vec<_>) = rows.partition(|row| self.rows[2 * row + 1] & property != 0);
+        let names = |rows: &[usize]| rows.iter().map(|row| self.saved_name(*row)).collect::<Vec<_>>().join(", ");
+        match (names(&lacking).as_str(), names(&unknown).as_str()) {
+            ("", "") => ", always so far".to_string(),
+            ("", unknown) => format!(", not known for: {unknown}"),
+            (lacking, "") => format!(", but not: {lacking}"),
+            (lacking, unknown) => format!(", but not: {lacking}; not known for: {unknown}"),
+        }
+    }
+
+    /// What nearly every row with a property has too, and the rows that stand in the way. With premises of two properties the list gets
+    /// long: the program `nearly` has them.
+    fn nearly(&self, percent: u64) -> Result<String, Stop> {
+        let (n, mut a, mut lines) = (self.attributes.len(), Answer::default(), String::new());
+        for i in 0..n {
+            unsafe { zundrafl_nearly(n, self.session.rows, self.rows.as_ptr(), ROW_WORDS, 1 << i, percent, &mut a) };
+            if a.code != TAKEN {
+                return Err(self.refused(a));
+            }
+            for j in (0..n).filter(|j| a.first >> j & 1 == 1) {
+                lines += &format!("{} -> {}{}\n", self.attributes[i], self.attributes[j], self.in_way(1 << i, 1 << j));
+            }
+        }
+        let nothing = if lines.is_empty() { " nothing so far" } else { "" };
+        Ok(format!("Nearly always (more than {percent} per cent):{nothing}\n{lines}"))
     }
 
     /// One reply to the question: the call for the log where it was taken, else what to say.
@@ -299,6 +339,9 @@ fn hold(files: &Files) -> Result<bool, Stop> {
         it.read_background(path)?;
     }
     let mut record = it.take_up(files.log.as_deref())?;
+    if let Some(percent) = files.nearly {
+        println!("{}", it.nearly(percent)?);
+    }
     let mut lines = io::stdin().lock().split(b'\n');
     let finished = loop {
         let a = it.step();
@@ -328,28 +371,36 @@ fn hold(files: &Files) -> Result<bool, Stop> {
     Ok(finished)
 }
 
-/// The files of the command line.
+/// The files of the command line, and the percentage.
 struct Files {
     table: String,
     rules: Option<String>,
     log: Option<String>,
     save: Option<String>,
+    nearly: Option<u64>,
+}
+
+/// A number in digits; one too long for a word is the largest word.
+fn number(text: &str) -> Option<u64> {
+    let digits = !text.is_empty() && text.bytes().all(|b| b.is_ascii_digit());
+    digits.then(|| text.parse().unwrap_or(u64::MAX))
 }
 
 /// What the command line names; nothing where it is wrong.
 fn arguments() -> Option<Files> {
-    let (mut table, mut rules, mut log, mut save) = (None, None, None, None);
+    let (mut table, mut rules, mut log, mut save, mut nearly) = (None, None, None, None, None);
     let mut args = std::env::args().skip(1);
     while let Some(arg) = args.next() {
         match arg.as_str() {
             "--background" => rules = Some(args.next()?),
             "--log" => log = Some(args.next()?),
             "--save" => save = Some(args.next()?),
+            "--nearly" => nearly = Some(number(&args.next()?)?),
             _ if !arg.starts_with('-') && table.is_none() => table = Some(arg),
             _ => return None,
         }
     }
-    Some(Files { table: table?, rules, log, save })
+    Some(Files { table: table?, rules, log, save, nearly })
 }
 
 fn main() -> ExitCode {

@@ -1,4 +1,5 @@
-"""Runs both example programs through what a person can do and what can be refused, and checks what they say and their exit status.
+"""Runs both example programs through what a person can do and what can be refused, and checks what they say and their exit status,
+and that both say the same.
 
     python3 tests/examples.py PROGRAM...
 """
@@ -31,7 +32,7 @@ def table(rows, properties, marks, title="title"):
 
 class Runs:
     def __init__(self, program, folder):
-        self.program, self.folder, self.count = program, folder, 0
+        self.program, self.folder, self.shown = program, folder, []
 
     def path(self, name, text):
         path = os.path.join(self.folder, name)
@@ -40,15 +41,17 @@ class Runs:
         return path
 
     def run(self, arguments, replies, status, out=None, err=None, part=None):
-        """One run; `out` is how standard output ends, `err` all of standard error, `part` a part of it."""
+        """One run; `out` is how standard output ends, or that it is empty, `err` all of standard error, `part` a part of it."""
         replies = replies if isinstance(replies, bytes) else replies.encode()
         done = subprocess.run([self.program, *arguments], input=replies, capture_output=True)
         said, wrong = done.stdout.decode(), done.stderr.decode()
         fine = done.returncode == status
-        fine = fine and (out is None or said.endswith(out)) and (err is None or wrong == err) and (part is None or part in wrong)
+        fine = fine and (out is None or (said.endswith(out) if out else not said))
+        fine = fine and (err is None or wrong == err) and (part is None or part in wrong)
         if not fine:
             sys.exit(f"{self.program} {arguments}: exit {done.returncode}, wanted {status}\n{said}\n{wrong}\nwanted {out!r} {err!r} {part!r}")
-        self.count += 1
+        shown = [text.replace(self.folder, "") for text in [*arguments, said, wrong]]
+        self.shown.append((shown, done.returncode))
         return said
 
     def save(self, arguments, replies, status, wanted, out=None, err=None):
@@ -225,13 +228,129 @@ def saves(runs):
     assert not os.path.exists(path)
 
 
+def table_parts(text):
+    """The names of the rows and of the properties, and the lines of marks."""
+    lines = text.splitlines()
+    rows, properties = int(lines[2]), int(lines[3])
+    lines = lines[5:]
+    return lines[:rows], lines[rows:rows + properties], lines[rows + properties:]
+
+
+def nearly_shown(rows, properties, marks, percent):
+    """What is shown with --nearly, from the names and the lines of marks."""
+    lines = []
+    for premise, first in enumerate(properties):
+        having = [(name, line.upper()) for name, line in zip(rows, marks) if line[premise] in "Xx"]
+        for other, second in enumerate(properties):
+            yes = [name for name, line in having if line[other] == "X"]
+            if other == premise or 100 * len(yes) <= percent * len(having):
+                continue
+            in_way = []
+            for words, mark in [("but not: ", "."), ("not known for: ", "?")]:
+                names = [name for name, line in having if line[other] == mark]
+                in_way += [words + ", ".join(names)] if names else []
+            lines.append(f"{first} -> {second}, {'; '.join(in_way) or 'always so far'}\n")
+    return f"Nearly always (more than {percent} per cent):" + ("\n" + "".join(lines) if lines else " nothing so far\n") + "\n"
+
+
+def listings(runs):
+    def lists(path, text, percents, replies=""):
+        """Runs with and without the list over a table file: the list comes first, and the rest is the same."""
+        rest = runs.run([path], replies, 1, err="")
+        for percent in percents:
+            shown = nearly_shown(*table_parts(text), percent)
+            assert runs.run([path, "--nearly", str(percent)], replies, 1, err="") == shown + rest, (path, percent, shown)
+
+    # The tables of the examples, and two lines worked out by hand.
+    for name in ["pets", "quadrilaterals", "recordings", "triangles"]:
+        with open(f"examples/tables/{name}") as text:
+            lists(f"examples/tables/{name}", text.read(), [0, 50, 60, 99])
+    said = runs.run(["--nearly", "80", "examples/tables/recordings"], "", 1)
+    assert said.startswith("Nearly always (more than 80 per cent):\nraw -> log, but not: stairs\nlog -> raw, always so far\n")
+    said = runs.run(["--nearly", "20", "examples/tables/recordings"], "", 1)
+    assert "\nraw -> handheld, but not: harbour at dawn, harbour from above, street at night, bridge; not known for: roof\n" in said
+
+    # No rows, one property, marks that are all unknown, ends of lines, small x; exactly the percentage is not more than it.
+    hundred = [str(i) for i in range(100)]
+    texts = [
+        table([], ["a", "b"], []), table(["r"], ["a"], ["X"]), table(["r", "s"], ["a", "b"], ["??", "??"]),
+        table(["r", "s"], ["a", "b"], ["XX", "X."]), table(["r", "s"], ["a", "b"], ["xX", "x?"]),
+        table(["r", "s, t", "u"], ["a", "b", "a, b"], ["xx?", "X?.", "x.x"]), table(["\u00e9" * 40], ["n" * 80, "->"], ["XX"]),
+        table(hundred, ["a", "b"], ["XX"] * 99 + ["X?"]), table([*hundred, "last"], ["a", "b"], ["XX"] * 100 + ["X."]),
+        table(["all", "all but the last"], [f"p{i}" for i in range(64)], ["X" * 64, "X" * 63 + "."]),
+    ]
+    for text in texts:
+        for end in ["\n", "\r\n", "\r"]:
+            lists(runs.path("listed", text.replace("\n", end)), text, [0, 50, 98, 99] if end == "\n" else [49])
+    source = random.Random(2)
+    for marks in ["X.", "X?", "X.?", "XX.?"] * 5:
+        count, n = source.randrange(1, 12), source.randrange(4, 9)
+        lines = ["".join(source.choice(marks) for _ in range(n)) for _ in range(count)]
+        text = table([f"row {i}" for i in range(count)], [f"property {i}" for i in range(n)], lines)
+        lists(runs.path("listed", text), text, source.sample(range(100), 3))
+
+    # What is no number, and what is none of the percentages.
+    usage = runs.run(["--help"], "", 0, err="")
+    assert "[--nearly PERCENT]" in usage
+    runs.run(["--nearly", PETS], "", 2, out="", err=usage)
+    runs.run([PETS, "--nearly"], "", 2, out="", err=usage)
+    for percent in ["", "many", "-1", "+1", "5.5", "50%", " 5", "5 ", "0x10"]:
+        runs.run([PETS, "--nearly", percent], "", 2, out="", err=usage)
+    for percent in [100, 101, 2**32 + 50, 2**64 - 1, 2**64 + 50, 10**40]:
+        runs.run([PETS, "--nearly", str(percent)], "yes\n", 1, out="", err=refused(31))
+    said = runs.run([PETS, "--nearly", "50"], "", 1)
+    for arguments in [["--nearly", "050", PETS], ["--nearly", "99", PETS, "--nearly", "50"]]:
+        assert runs.run(arguments, "", 1) == said
+
+    # With the rows of a log; log, table and questions are as without the list.
+    with open("tests/interview.replies") as replies, open("tests/interview.list") as wanted, open(PETS) as pets:
+        replies, wanted, pets = replies.read().splitlines(keepends=True), wanted.read(), pets.read()
+    replies[0] = "no ..X. shark\n"
+    rows, properties, marks = table_parts(pets)
+    plain, log, saved = [os.path.join(runs.folder, name) for name in ["plain-log", "nearly-log", "nearly-saved"]]
+    for first, last, status, names, filed in [
+        (0, 4, 1, [], []),
+        (4, 6, 1, ["shark", "row 5", "row 6"], ["..X.", "X..X", "..XX"]),
+        (6, len(replies), 0, ["shark", "row 5", "row 6"], ["..X.", "X..X", "..XX"]),
+        (0, 0, 0, ["shark", "row 5", "row 6", "row 7", "row 8", "row 9"], ["..X.", "X..X", "..XX", ".XXX", "X.XX", "XX.X"]),
+    ]:
+        given, percent = "".join(replies[first:last]), 10 + 5 * last
+        rest = runs.run([PETS, "--log", plain, "--save", saved], given, status)
+        with open(saved) as text:
+            text = text.read()
+        os.remove(saved)
+        said = runs.run([PETS, "--nearly", str(percent), "--log", log, "--save", saved], given, status)
+        assert said == nearly_shown(rows + names, properties, marks + filed, percent) + rest
+        runs.holds(saved, text)
+        os.remove(saved)
+        with open(plain) as text:
+            runs.holds(log, text.read())
+    assert rest.endswith(wanted)
+    with open(plain) as text:
+        runs.run([PETS, "--log", log, "--save", saved, "--nearly", "100"], "", 1, out="", err=refused(31))
+        runs.holds(log, text.read())
+    assert not os.path.exists(saved)
+
+    # What is refused at the opening is refused first.
+    unsure, against = runs.path("unsure", table(["r"], ["a", "b", "c"], ["X?."])), runs.path("against", "a -> c\n")
+    for percent in ["50", "100"]:
+        runs.run([unsure, "--background", against, "--nearly", percent], "", 1, out="", part=refused(6))
+        runs.run([unsure, "--log", log, "--nearly", percent], "", 2, out="", err=f"{log}: is no log of this table\n")
+
+
 def main():
+    shown = []
     for program in sys.argv[1:]:
         with tempfile.TemporaryDirectory() as folder:
             runs = Runs(os.path.abspath(program), folder)
-            for part in [uses, files, interviews, refusals, saves]:
+            for part in [uses, files, interviews, refusals, saves, listings]:
                 part(runs)
-            print(f"{program}: {runs.count} runs say what they have to")
+            shown.append(runs.shown)
+            print(f"{program}: {len(runs.shown)} runs say what they have to")
+    for program, others in zip(sys.argv[2:], shown[1:]):
+        for one, other in zip(shown[0], others, strict=True):
+            if one != other:
+                sys.exit(f"{sys.argv[1]}: {one}\n{program}: {other}")
 
 
 main()

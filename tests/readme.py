@@ -1,6 +1,6 @@
-"""Holds the README's first screen to what the programs do: the table file, the program's output, the interview, the refusals in words.
+"""Holds the README's first screen to what the programs do: the table file, the program's output, the interview, what nearly holds, the refusals in words.
 
-    python3 tests/readme.py EXPLORE INTERVIEW
+    python3 tests/readme.py EXPLORE INTERVIEW NEARLY
 """
 import re
 import subprocess
@@ -18,7 +18,7 @@ def run(program, arguments, given):
 
 
 def main():
-    explore, interview = sys.argv[1:]
+    explore, interview, nearly = sys.argv[1:]
     with open("README.md") as readme:
         text = readme.read()
     shown = blocks(text)
@@ -29,6 +29,11 @@ def main():
     replies = [line.split("? ")[1] for line in asked if "? " in line]
     held = run(interview, ["examples/tables/triangles"], "\n".join(replies).encode()).decode()
     wanted = "".join(line.split("? ")[0] + "? " if "? " in line else line + "\n" for line in asked)
+    recordings = "examples/tables/recordings"
+    with open(recordings, "rb") as given:
+        listed = run(nearly, [], given.read()).decode()
+    # The interview ends where its replies do, with another status than 0.
+    shown_first = subprocess.run([interview, "--nearly", "80", recordings], input=b"", capture_output=True).stdout.decode().split("\n\n")[0] + "\n"
     with open("crates/refusal_words/src/lib.rt") as source:
         source = source.read()
     sentences = source[source.index('b"') + 2:source.rindex('"')].split("\n")
@@ -39,6 +44,8 @@ def main():
             ("the table file", table.decode() in shown),
             ("its output", written in shown),
             ("the interview", held.replace("\n", "") == wanted.replace("\n", "")),
+            ("what nearly always comes", listed in shown),
+            ("what the interview shows first", shown_first in shown),
             ("the refusals in words", rows in text),
         ]
         if not fine

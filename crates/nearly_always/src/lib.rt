@@ -12,14 +12,14 @@ use session::Session;
 // The most per cent that can be asked for.
 pub const PERCENT: u64 = 99;
 
-// Adds a row to the counts: one for each attribute that it has.
-fn count_attributes(counts: &mut [u64], yes: u64)
-    requires { ⌜ Small (now counts) ⌝ }
-    ensures { λ _. ⌜ Adds yes (now (counts .entry)) (now (counts .exit)) ⌝ }
+// Adds a row to the counts of n attributes: one for each that it has.
+fn count_attributes(counts: &mut [u64], n: usize, yes: u64)
+    requires { ⌜ (n ≤ length (now counts)) × Small n (now counts) ⌝ }
+    ensures { λ _. ⌜ Adds n yes (now (counts .entry)) (now (counts .exit)) ⌝ }
 {
     let mut left = yes;
     let mut j = 0;
-    while j < counts.len() {
+    while j < n {
         counts[j] += left % 2;
         left /= 2;
         j += 1;
@@ -27,52 +27,52 @@ fn count_attributes(counts: &mut [u64], yes: u64)
 }
 
 // Counts a row, where it has the premise; the answer is how many had it so far.
-fn count_row(counts: &mut [u64], total: u64, premise: u64, yes: u64) -> u64
-    requires { ⌜ Small (now counts) × (total ≤ mostObjects) ⌝ }
-    ensures { λ r. ⌜ CountsRow premise yes total (now (counts .entry)) r (now (counts .exit)) ⌝ }
+fn count_row(counts: &mut [u64], n: usize, total: u64, premise: u64, yes: u64) -> u64
+    requires { ⌜ (n ≤ length (now counts)) × Small n (now counts) × (total ≤ mostObjects) ⌝ }
+    ensures { λ r. ⌜ CountsRow n premise yes total (now (counts .entry)) r (now (counts .exit)) ⌝ }
 {
     if premise & yes != premise {
         return total;
     }
-    count_attributes(counts, yes);
+    count_attributes(counts, n, yes);
     total + 1
 }
 
-// Counts the rows that have the premise, and for each attribute those of them that have it.
-fn count_rows(rows: &[u64], used: usize, premise: u64, counts: &mut [u64]) -> u64
-    requires { ⌜ (used ≤ mostObjects) × (used * 2 ≤ length (now rows)) × Zero (now counts) ⌝ }
-    ensures { λ r. ⌜ Counted (objectsOf used (now (rows .entry))) premise r (now (counts .exit)) ⌝ }
+// Counts the rows that have the premise, and for each of n attributes those of them that have it.
+fn count_rows(rows: &[u64], used: usize, premise: u64, counts: &mut [u64], n: usize) -> u64
+    requires { ⌜ (used ≤ mostObjects) × (used * 2 ≤ length (now rows)) × (n ≤ length (now counts)) × Zero n (now counts) ⌝ }
+    ensures { λ r. ⌜ Counted n (objectsOf used (now (rows .entry))) premise r (now (counts .exit)) ⌝ }
 {
     let mut total = 0;
     let mut i = 0;
     while i < used {
-        total = count_row(counts, total, premise, rows[i * 2]);
+        total = count_row(counts, n, total, premise, rows[i * 2]);
         i += 1;
     }
     total
 }
 
-// A set of attributes below j, with j where its count exceeds.
-fn joined(set: u64, j: usize, counted: u64, total: u64, percent: u64) -> u64
-    requires { ⌜ (j < mostAttributes) × (set < 2 ^ j) × (counted ≤ mostObjects) × (total ≤ mostObjects) × (percent ≤ mostPercent) ⌝ }
-    ensures { λ r. ⌜ r ≡ joinedBy percent total counted j set ⌝ }
+// A set of attributes below p, with p where its count exceeds.
+fn joined(set: u64, p: usize, counted: u64, total: u64, percent: u64) -> u64
+    requires { ⌜ (p < mostAttributes) × (set < 2 ^ p) × (counted ≤ mostObjects) × (total ≤ mostObjects) × (percent ≤ mostPercent) ⌝ }
+    ensures { λ r. ⌜ r ≡ joinedBy percent total counted p set ⌝ }
 {
     if percent * total < 100 * counted {
-        return attribute_set::raised(set, j);
+        return attribute_set::raised(set, p);
     }
     set
 }
 
 // The attributes below n whose counts exceed.
 fn exceeding(counts: &[u64], n: usize, total: u64, percent: u64) -> u64
-    requires { ⌜ (n ≤ mostAttributes) × (n ≤ length (now counts)) × Small (now counts) × (total ≤ mostObjects) × (percent ≤ mostPercent) ⌝ }
+    requires { ⌜ (n ≤ mostAttributes) × (n ≤ length (now counts)) × Small n (now counts) × (total ≤ mostObjects) × (percent ≤ mostPercent) ⌝ }
     ensures { λ r. ⌜ r ≡ passing (exceedsBy percent total (now (counts .entry))) n ⌝ }
 {
     let mut set = 0;
-    let mut j = 0;
-    while j < n {
-        set = joined(set, j, counts[j], total, percent);
-        j += 1;
+    let mut p = 0;
+    while p < n {
+        set = joined(set, p, counts[p], total, percent);
+        p += 1;
     }
     set
 }
@@ -99,7 +99,7 @@ fn list_in_range(n: usize, used: usize, rows: &[u64], premise: u64, percent: u64
     ensures { λ r. ⌜ r ≡ nearlyAlways n percent (objectsOf used (now (rows .entry))) premise ⌝ }
 {
     let mut counts = [0u64; Session::ATTRIBUTES];
-    let total = count_rows(rows, used, premise, &mut counts);
+    let total = count_rows(rows, used, premise, &mut counts, n);
     let set = exceeding(&counts, n, total, percent);
     attribute_set::difference(set, premise)
 }

@@ -3,28 +3,9 @@
 use mathlib.Core.Path.{_≡_}
 use mathlib.Core.List.{List, [], _∷_}
 use Prim.Native.Nat.{ℕ}
+use Rattle.table_layout.specs.Examples.{input, unknown}
 use Rattle.transcript.specs.Output.{output}
 pub mod Proof
-
--- the table file, a line of it to a line
-abbrev pub input : List ℕ
-input =
-    66 ∷ 10 ∷
-    10 ∷
-    52 ∷ 10 ∷
-    51 ∷ 10 ∷
-    10 ∷
-    49 ∷ 10 ∷
-    50 ∷ 10 ∷
-    51 ∷ 10 ∷
-    52 ∷ 10 ∷
-    97 ∷ 10 ∷
-    98 ∷ 10 ∷
-    99 ∷ 10 ∷
-    88 ∷ 88 ∷ 46 ∷ 10 ∷
-    46 ∷ 88 ∷ 46 ∷ 10 ∷
-    46 ∷ 88 ∷ 88 ∷ 10 ∷
-    46 ∷ 46 ∷ 46 ∷ 10 ∷ []
 
 -- the output, a line of it to a line
 abbrev pub expected : List ℕ
@@ -39,10 +20,7 @@ expected =
     76 ∷ 32 ∷ 88 ∷ 46 ∷ 46 ∷ 32 ∷ 46 ∷ 88 ∷ 46 ∷ 10 ∷
     69 ∷ 78 ∷ 68 ∷ 32 ∷ 50 ∷ 32 ∷ 52 ∷ 32 ∷ 54 ∷ 10 ∷ []
 
--- one row over two properties, the second mark unknown, and its output: 29 at the offset of the line of marks, and nothing else
-abbrev pub unknown : List ℕ
-unknown = 66 ∷ 10 ∷ 10 ∷ 49 ∷ 10 ∷ 50 ∷ 10 ∷ 10 ∷ 49 ∷ 10 ∷ 97 ∷ 10 ∷ 98 ∷ 10 ∷ 88 ∷ 63 ∷ 10 ∷ []
-
+-- the output of the second: 29 at the offset of the line of marks, and nothing else
 abbrev pub unknownExpected : List ℕ
 unknownExpected = 69 ∷ 32 ∷ 50 ∷ 57 ∷ 32 ∷ 49 ∷ 52 ∷ 10 ∷ []
 

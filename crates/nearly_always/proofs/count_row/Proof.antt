@@ -12,11 +12,11 @@ counted c = c .before .before
 
 returns : tie.Need-returns
 unfolding inside
-returns c = counts-lacks _ _ _ _ (ne-eqb _ _ (c .if1 .taken))
+returns c = counts-lacks _ _ _ _ _ (ne-eqb _ _ (c .if1 .taken))
 
 returns-2 : tie.Need-returns-2
 unfolding inside
-returns-2 c = counts-has _ _ _ _ _ (eq-eqb _ _ (counted c .before .before .if1 .left)) (counted c .count-attributes .ensures)
+returns-2 c = counts-has _ _ _ _ _ _ (eq-eqb _ _ (counted c .before .before .if1 .left)) (counted c .count-attributes .ensures)
 
 pub count-row-spec : {M : Type 1} → statement M
 count-row-spec = tie.close (tie.spec returns (λ c κs. search needs) (λ c. search needs) (λ c. search needs) returns-2)

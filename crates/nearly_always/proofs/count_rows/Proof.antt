@@ -14,11 +14,11 @@ use Rattle.nearly_always.proofs.count_rows.Statement.{statement}
 use Rattle.nearly_always.proofs.count_rows.Tie as tie
 
 abbrev Inv-loop : tie.InvT-loop
-Inv-loop rows used premise counts₀ total₀ i₀ counts total i =
-    (i ≤ used) × (length counts ≡ length counts₀) × CountedBut (objectsOf (used - i) (drop (i * 2) rows)) (objectsOf used rows) premise total counts
+Inv-loop rows used premise counts₀ n total₀ i₀ counts total i =
+    (i ≤ used) × (length counts ≡ length counts₀) × CountedBut n (objectsOf (used - i) (drop (i * 2) rows)) (objectsOf used rows) premise total counts
 
 abbrev μ-loop : tie.MeasureT-loop
-μ-loop rows used premise counts₀ total₀ i₀ counts total i = used - i
+μ-loop rows used premise counts₀ n total₀ i₀ counts total i = used - i
 
 -- the places: the start, before the loop; a turn of it, and what it counts
 abbrev start : tie.At-loop Inv-loop μ-loop → tie.Start Inv-loop μ-loop
@@ -34,14 +34,19 @@ loop-holds : tie.Need-loop-holds Inv-loop μ-loop
 loop-holds c =
     let a = c .before .before .args in
     let os = objectsOf (a .used) (a .rows .now) in
-    (omega arith, refl, rw sub-zero (counted-start os (a .premise) (a .counts .now) (c .before .before .pre .2)))
+    (omega arith, refl, rw sub-zero (counted-start (a .n) os (a .premise) (a .counts .now) (c .before .before .pre .3)))
 
 -- no count is above the rows
-small : (c : tie.At-loop Inv-loop μ-loop) → Small (c .loop .counts) × (c .loop .total ≤ mostObjects)
+small : (c : tie.At-loop Inv-loop μ-loop) → Small (start c .args .n) (c .loop .counts) × (c .loop .total ≤ mostObjects)
 small c =
     let a = start c .args in
-    counted-small _ (objectsOf (a .used) (a .rows .now)) (a .premise) (c .loop .total) (c .loop .counts) (c .loop .inv .2)
+    counted-small (a .n) _ (objectsOf (a .used) (a .rows .now)) (a .premise) (c .loop .total) (c .loop .counts) (c .loop .inv .2)
     (omega (arith, length-pairs object (a .used) (a .rows .now), start c .pre .0))
+
+count-row-requires : tie.Need-count-row-requires Inv-loop μ-loop
+count-row-requires c κs =
+    let l = c .before .before .before in
+    (omega (arith, l .loop .inv .1, start l .pre .2), small l .0, small l .1)
 
 loop-again : tie.Need-loop-again Inv-loop μ-loop
 loop-again c =
@@ -53,7 +58,7 @@ loop-again c =
       omega arith,
       called .ensures .same-length ∙ l .loop .inv .1,
       called .ensures .counted _ _ (getD (a .rows .now) (i * 2 + 1) 0)
-          (subst (λ os. CountedBut os (objectsOf (a .used) (a .rows .now)) (a .premise) (l .loop .total) (l .loop .counts))
+          (subst (λ os. CountedBut (a .n) os (objectsOf (a .used) (a .rows .now)) (a .premise) (l .loop .total) (l .loop .counts))
           (pairs-at object (a .rows .now) (a .used) i h) (l .loop .inv .2)),
     )
 
@@ -62,8 +67,8 @@ returns c =
     let l = c .before in
     let a = start l .args in
     let os = objectsOf (a .used) (a .rows .now) in
-    counted-end os (a .premise) (l .loop .total) (l .loop .counts)
-    (subst (λ rest. CountedBut rest os (a .premise) (l .loop .total) (l .loop .counts))
+    counted-end (a .n) os (a .premise) (l .loop .total) (l .loop .counts)
+    (subst (λ rest. CountedBut (a .n) rest os (a .premise) (l .loop .total) (l .loop .counts))
     (pairs-end object (drop (l .loop .i * 2) (a .rows .now)) (a .used) (l .loop .i) (omega arith)) (l .loop .inv .2))
 
 pub count-rows-spec : {M : Type 1} → statement M
@@ -76,7 +81,7 @@ count-rows-spec =
     (λ c. omega arith)
     (λ c. omega arith)
     (λ c. omega arith)
-    (λ c κs. small (c .before .before .before))
+    count-row-requires
     (λ c. omega arith)
     (λ c. omega arith)
     loop-again

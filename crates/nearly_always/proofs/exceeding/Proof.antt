@@ -13,10 +13,10 @@ use Rattle.nearly_always.proofs.exceeding.Statement.{statement}
 use Rattle.nearly_always.proofs.exceeding.Tie as tie
 
 abbrev Inv-loop : tie.InvT-loop
-Inv-loop counts n total percent set₀ j₀ set j = (j ≤ n) × (set ≡ passing (exceedsBy percent total counts) j)
+Inv-loop counts n total percent set₀ p₀ set p = (p ≤ n) × (set ≡ passing (exceedsBy percent total counts) p)
 
 abbrev μ-loop : tie.MeasureT-loop
-μ-loop counts n total percent set₀ j₀ set j = n - j
+μ-loop counts n total percent set₀ p₀ set p = n - p
 
 -- the start, before the loop
 abbrev start : tie.At-loop Inv-loop μ-loop → tie.Start Inv-loop μ-loop
@@ -25,12 +25,12 @@ start c = c .before .before
 joined-requires : tie.Need-joined-requires Inv-loop μ-loop
 joined-requires c κs =
     let l = c .before .before in
-    let p = start l .pre in (
+    let known = start l .pre in (
       omega arith,
-      subst (λ (s : ℕ). s < 2 ^ l .loop .j) (sym (l .loop .inv .1)) (passing-lt _ (l .loop .j)),
-      p .2 .at (l .loop .j) (omega (arith, p .1)),
-      p .3,
-      p .4,
+      subst (λ (s : ℕ). s < 2 ^ l .loop .p) (sym (l .loop .inv .1)) (passing-lt _ (l .loop .p)),
+      known .2 .at (l .loop .p) (omega arith),
+      known .3,
+      known .4,
     )
 
 loop-again : tie.Need-loop-again Inv-loop μ-loop
@@ -38,17 +38,17 @@ loop-again c =
     let l = c .before .before .before in
     let a = start l .args in
     let f = exceedsBy (a .percent) (a .total) (a .counts .now) in
-    let j = l .loop .j in (
+    let p = l .loop .p in (
       omega arith,
-      c .joined .ensures ∙ ap (joinedBy (a .percent) (a .total) (getD (a .counts .now) j 0) j) (l .loop .inv .1)
-          ∙ passing-joined (a .percent) (a .total) (a .counts .now) j ∙ ap (passing f) (sym (add-one j)),
+      c .joined .ensures ∙ ap (joinedBy (a .percent) (a .total) (getD (a .counts .now) p 0) p) (l .loop .inv .1)
+          ∙ passing-joined (a .percent) (a .total) (a .counts .now) p ∙ ap (passing f) (sym (add-one p)),
     )
 
 returns : tie.Need-returns Inv-loop μ-loop
 returns c =
     let l = c .before in
     let a = start l .args in
-    let e : l .loop .j ≡ a .n = omega arith in
+    let e : l .loop .p ≡ a .n = omega arith in
     l .loop .inv .1 ∙ ap (passing (exceedsBy (a .percent) (a .total) (a .counts .now))) e
 
 pub exceeding-spec : {M : Type 1} → statement M

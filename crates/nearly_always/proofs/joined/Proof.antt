@@ -7,7 +7,7 @@ use Rattle.nearly_always.proofs.joined.Statement.{statement}
 use Rattle.nearly_always.proofs.joined.Tie as tie
 
 mul-if1 : tie.Need-mul-if1
-mul-if1 c = let a = c .args in record { fits = product-fits (a .percent) (a .total) (a .counted) (a .j) (a .set) (c .pre .4) (c .pre .3) }
+mul-if1 c = let a = c .args in record { fits = product-fits (a .percent) (a .total) (a .counted) (a .p) (a .set) (c .pre .4) (c .pre .3) }
 
 mul-if1-2 : tie.Need-mul-if1-2
 mul-if1-2 c = record { fits = omega (arith, c .pre .2) }

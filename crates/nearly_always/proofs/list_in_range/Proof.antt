@@ -20,14 +20,14 @@ start c = c .before .before .before
 count-rows-requires : tie.Need-count-rows-requires
 count-rows-requires c κs =
     let p = c .before .before .pre in
-    (p .objects, omega (arith, p .places), zero-counts 64)
+    (p .objects, omega (arith, p .places), p .attributes, zero-counts _ 64 (p .attributes))
 
 exceeding-requires : tie.Need-exceeding-requires
 exceeding-requires c κs =
     let d = c .before .before in
     let p = start d .pre in
     let a = start d .args in
-    let s = all-small (objectsOf (a .used) (a .rows .now)) (a .premise) (d .count-rows .result) _ (d .count-rows .ensures)
+    let s = all-small (a .n) (objectsOf (a .used) (a .rows .now)) (a .premise) (d .count-rows .result) _ (d .count-rows .ensures)
     (omega (arith, length-pairs object (a .used) (a .rows .now), p .objects)) in
     (p .attributes, search needs, s .0, s .1, p .percentage)
 
@@ -37,7 +37,7 @@ returns c =
     let e = c .before in
     let d = e .before .before .before in
     let a = start d .args in
-    let f = exceeds-counted (a .n) (a .percent) (d .count-rows .result) (objectsOf (a .used) (a .rows .now)) (a .premise) _ (d .count-rows .ensures) (search needs) in
+    let f = exceeds-counted (a .n) (a .percent) (d .count-rows .result) (objectsOf (a .used) (a .rows .now)) (a .premise) _ (d .count-rows .ensures) in
     c .difference .ensures ∙ ap (λ s. without s (a .premise)) (e .exceeding .ensures ∙ f)
 
 pub list-in-range-spec : {M : Type 1} → statement M

@@ -11,32 +11,13 @@ use Rattle.line_faults.specs.Faults.{fault}
 use Rattle.line_walk.specs.Walk.{lineFault, walk}
 use Rattle.table_walk.specs.Walk.{rest}
 use Rattle.table_layout.specs.Layout.{layoutOf, openedOf}
+use Rattle.table_layout.specs.Examples.{input, unknown}
 use Rattle.table_rows.specs.Rows.{wordOf, rowsFrom}
 use Rattle.text.specs.Text.{digits, setText}
 use Rattle.nearly_always.specs.Nearly.{having, exceeds, passing, nearlyAlways}
 use Rattle.short_premises.specs.Premises.{pairsWith, premisesBelow}
 use Rattle.nearly_lines.specs.Lines.{nearlyLines}
 use Rattle.nearly_output.specs.Output.{nearlyOutput}
-
--- the table file, a line of it to a line
-abbrev pub input : List ℕ
-input =
-    66 ∷ 10 ∷
-    10 ∷
-    52 ∷ 10 ∷
-    51 ∷ 10 ∷
-    10 ∷
-    49 ∷ 10 ∷
-    50 ∷ 10 ∷
-    51 ∷ 10 ∷
-    52 ∷ 10 ∷
-    97 ∷ 10 ∷
-    98 ∷ 10 ∷
-    99 ∷ 10 ∷
-    88 ∷ 88 ∷ 46 ∷ 10 ∷
-    46 ∷ 88 ∷ 46 ∷ 10 ∷
-    46 ∷ 88 ∷ 88 ∷ 10 ∷
-    46 ∷ 46 ∷ 46 ∷ 10 ∷ []
 
 -- the output, a line of it to a line
 abbrev pub expected : List ℕ
@@ -48,10 +29,7 @@ expected =
     78 ∷ 32 ∷ 88 ∷ 46 ∷ 88 ∷ 32 ∷ 46 ∷ 46 ∷ 46 ∷ 10 ∷
     78 ∷ 32 ∷ 88 ∷ 88 ∷ 46 ∷ 32 ∷ 46 ∷ 46 ∷ 46 ∷ 10 ∷ []
 
--- one row over two properties, the second mark unknown, and the lines of {1}, {0} and both: nothing is listed
-abbrev pub unknown : List ℕ
-unknown = 66 ∷ 10 ∷ 10 ∷ 49 ∷ 10 ∷ 50 ∷ 10 ∷ 10 ∷ 49 ∷ 10 ∷ 97 ∷ 10 ∷ 98 ∷ 10 ∷ 88 ∷ 63 ∷ 10 ∷ []
-
+-- of one row over two properties, the second mark unknown, the lines of {1}, {0} and both: nothing is listed
 abbrev pub unknownExpected : List ℕ
 unknownExpected =
     78 ∷ 32 ∷ 46 ∷ 88 ∷ 32 ∷ 46 ∷ 46 ∷ 10 ∷

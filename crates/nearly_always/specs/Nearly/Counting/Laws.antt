@@ -9,7 +9,7 @@ use Prim.Native.Nat.{ℕ, suc, _+_, _*_, _/_, _%_, _^_, _≤_, _<_}
 use native.Mathlib.Omega.{arith}
 use native.Mathlib.Nat.{div-one, pow-zero, mod-eq-of-lt, mul-le-mul, lt-of-le-of-lt, lt-of-lt-of-le}
 use lib.Pow.{shr-shr, pow-mono}
-use lib.ListN.{length, getD, set, replicate, length-set, length-replicate, getD-replicate}
+use lib.ListN.{length, getD, set, replicate, length-set, getD-replicate}
 use lib.Seq.{getD-set-same, getD-set-other}
 use lib.Bits.{bitOr}
 use lib.Dec.{lit<}
@@ -30,7 +30,7 @@ pub adding-start : (marks : ℕ) (counts : List ℕ) → Adding marks 0 marks co
 adding-start marks counts = record {
   same-length = refl;
   rest = omega (arith, pow-zero 2, div-one marks);
-  below = λ i h l. absurd (omega arith);
+  below = λ i h. absurd (omega arith);
   above = λ i h. refl;
 }
 
@@ -39,58 +39,56 @@ pub adding-step : (marks j left : ℕ) (before now : List ℕ) → j < length no
 adding-step marks j left before now l a = record {
   same-length = length-set now j _ ∙ a .same-length;
   rest = ap (λ (k : ℕ). k / 2) (a .rest) ∙ halved;
-  below = λ i h k. at i h k (lt-or-le i j);
+  below = λ i h. at i h (lt-or-le i j);
   above = λ i h. getD-set-other now j i _ 0 (λ e. absurd (omega (arith, h, e))) ∙ a .above i (omega (arith, h));
 }
   where
     halved : marks / 2 ^ j / 2 ≡ marks / 2 ^ (j + 1)
     halved = shr-shr marks j 1
 
-    at : (i : ℕ) → i < j + 1 → i < length before → (i < j) ⊎ (j ≤ i)
+    at : (i : ℕ) → i < j + 1 → (i < j) ⊎ (j ≤ i)
         → getD (set now j (getD now j 0 + left % 2)) i 0 ≡ getD before i 0 + digit marks i
-    at i h k (inl m) = getD-set-other now j i _ 0 (λ e. absurd (omega (arith, m, e))) ∙ a .below i m k
-    at i h k (inr m) =
+    at i h (inl m) = getD-set-other now j i _ 0 (λ e. absurd (omega (arith, m, e))) ∙ a .below i m
+    at i h (inr m) =
         let e : i ≡ j = omega (arith, h, m) in
         rw e (getD-set-same now j _ 0 l ∙ rw (a .above j (omega arith), a .rest))
 
-pub adding-end : (marks j left : ℕ) (before now : List ℕ) → length before ≤ j → Adding marks j left before now → Adds marks before now
-adding-end marks j left before now h a = record {
+pub adding-end : (n marks j left : ℕ) (before now : List ℕ) → n ≤ j → Adding marks j left before now → Adds n marks before now
+adding-end n marks j left before now h a = record {
   same-length = a .same-length;
-  at = λ i l. a .below i (omega (arith, h, l)) l;
+  at = λ i l. a .below i (omega (arith, h, l));
 }
 
 -- ---- the rows
 
-pub zero-counts : (k : ℕ) → Zero (replicate k 0)
-zero-counts k = record { at = λ j h. getD-replicate k j 0 0 (omega (arith, h, length-replicate {A = ℕ} k 0)) }
+pub zero-counts : (n k : ℕ) → n ≤ k → Zero n (replicate k 0)
+zero-counts n k l = record { at = λ j h. getD-replicate k j 0 0 (omega (arith, h, l)) }
 
-pub counted-start : (os : List Object) (premise : ℕ) (counts : List ℕ) → Zero counts → CountedBut os os premise 0 counts
-counted-start os premise counts z = record {
+pub counted-start : (n : ℕ) (os : List Object) (premise : ℕ) (counts : List ℕ) → Zero n counts → CountedBut n os os premise 0 counts
+counted-start n os premise counts z = record {
   with-premise = omega arith;
   with-attribute = λ j h. omega (arith, z .at j h);
 }
 
-pub counted-end : (os : List Object) (premise total : ℕ) (counts : List ℕ) → CountedBut [] os premise total counts → Counted os premise total counts
-counted-end os premise total counts c = record {
+pub counted-end : (n : ℕ) (os : List Object) (premise total : ℕ) (counts : List ℕ) → CountedBut n [] os premise total counts → Counted n os premise total counts
+counted-end n os premise total counts c = record {
   with-premise = omega (arith, c .with-premise, support-none premise);
   with-attribute = λ j h. omega (arith, c .with-attribute j h, support-none (bitOr premise (2 ^ j)));
 }
 
-module _ (premise yes total : ℕ) (before : List ℕ) where
+module _ (n premise yes total : ℕ) (before : List ℕ) where
   -- the row has the premise
-  pub counts-has : (after : List ℕ) → inside premise yes ≡ true → Adds yes before after → CountsRow premise yes total before (total + 1) after
+  pub counts-has : (after : List ℕ) → inside premise yes ≡ true → Adds n yes before after → CountsRow n premise yes total before (total + 1) after
   counts-has after e adds = record {
     same-length = adds .same-length;
     counted = λ rest os no c. record {
       with-premise = omega (arith, c .with-premise, support-has premise (object yes no) rest e);
-      with-attribute = λ j h.
-          let l : j < length before = omega (arith, h, adds .same-length) in
-          omega (arith, c .with-attribute j l, adds .at j l, support-with premise j (object yes no) rest e);
+      with-attribute = λ j h. omega (arith, c .with-attribute j h, adds .at j h, support-with premise j (object yes no) rest e);
     };
   }
 
   -- it has not
-  pub counts-lacks : inside premise yes ≡ false → CountsRow premise yes total before total before
+  pub counts-lacks : inside premise yes ≡ false → CountsRow n premise yes total before total before
   counts-lacks e = record {
     same-length = refl;
     counted = λ rest os no c. record {
@@ -99,16 +97,16 @@ module _ (premise yes total : ℕ) (before : List ℕ) where
     };
   }
 
-pub counted-small : (rest os : List Object) (premise total : ℕ) (counts : List ℕ) → CountedBut rest os premise total counts → length os ≤ mostObjects
-    → Small counts × (total ≤ mostObjects)
-counted-small rest os premise total counts c fits = (
+pub counted-small : (n : ℕ) (rest os : List Object) (premise total : ℕ) (counts : List ℕ) → CountedBut n rest os premise total counts
+    → length os ≤ mostObjects → Small n counts × (total ≤ mostObjects)
+counted-small n rest os premise total counts c fits = (
   record { at = λ j h. omega (arith, c .with-attribute j h, support-most (bitOr premise (2 ^ j)) os, fits) },
   omega (arith, c .with-premise, support-most premise os, fits),
 )
 
-pub all-small : (os : List Object) (premise total : ℕ) (counts : List ℕ) → Counted os premise total counts → length os ≤ mostObjects
-    → Small counts × (total ≤ mostObjects)
-all-small os premise total counts c fits = (
+pub all-small : (n : ℕ) (os : List Object) (premise total : ℕ) (counts : List ℕ) → Counted n os premise total counts → length os ≤ mostObjects
+    → Small n counts × (total ≤ mostObjects)
+all-small n os premise total counts c fits = (
   record { at = λ j h. omega (arith, c .with-attribute j h, support-most (bitOr premise (2 ^ j)) os, fits) },
   omega (arith, c .with-premise, support-most premise os, fits),
 )
@@ -134,9 +132,9 @@ pub passing-joined : (percent total : ℕ) (counts : List ℕ) (j : ℕ)
 unfolding passing
 passing-joined percent total counts j = refl
 
-pub exceeds-counted : (n percent total : ℕ) (os : List Object) (premise : ℕ) (counts : List ℕ) → Counted os premise total counts → n ≤ length counts
+pub exceeds-counted : (n percent total : ℕ) (os : List Object) (premise : ℕ) (counts : List ℕ) → Counted n os premise total counts
     → passing (exceedsBy percent total counts) n ≡ passing (exceeds percent os premise) n
 unfolding exceeds
-exceeds-counted n percent total os premise counts c fits =
+exceeds-counted n percent total os premise counts c =
     passing-same (exceedsBy percent total counts) (exceeds percent os premise) n
-    (λ j h. rw (c .with-premise, c .with-attribute j (omega (arith, fits))))
+    (λ j h. rw (c .with-premise, c .with-attribute j h))
