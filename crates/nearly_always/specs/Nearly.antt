@@ -20,7 +20,7 @@ unfoldable pub having : ℕ → List Object → List Object
 having s [] = []
 having s (o ∷ os) = elim (inside s (o .yes-marks)) [ true ↦ o ∷ having s os | false ↦ having s os ]
 
--- how many these are
+-- how many these are: the support of the set
 abbrev pub support : ℕ → List Object → ℕ
 support s os = length (having s os)
 

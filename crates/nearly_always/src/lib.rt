@@ -65,7 +65,8 @@ fn joined(set: u64, p: usize, counted: u64, total: u64, percent: u64) -> u64
 
 // The attributes below n whose counts exceed.
 fn exceeding(counts: &[u64], n: usize, total: u64, percent: u64) -> u64
-    requires { ⌜ (n ≤ mostAttributes) × (n ≤ length (now counts)) × Small n (now counts) × (total ≤ mostObjects) × (percent ≤ mostPercent) ⌝ }
+    requires { ⌜ (n ≤ mostAttributes) × (n ≤ length (now counts)) × Small n (now counts) ⌝ }
+    requires { ⌜ (total ≤ mostObjects) × (percent ≤ mostPercent) ⌝ }
     ensures { λ r. ⌜ r ≡ passing (exceedsBy percent total (now (counts .entry))) n ⌝ }
 {
     let mut set = 0;

@@ -28,9 +28,9 @@ joined-requires c κs =
     let known = start l .pre in (
       omega arith,
       subst (λ (s : ℕ). s < 2 ^ l .loop .p) (sym (l .loop .inv .1)) (passing-lt _ (l .loop .p)),
-      known .2 .at (l .loop .p) (omega arith),
-      known .3,
-      known .4,
+      known .0 .2 .at (l .loop .p) (omega arith),
+      known .1 .0,
+      known .1 .1,
     )
 
 loop-again : tie.Need-loop-again Inv-loop μ-loop

@@ -29,7 +29,7 @@ exceeding-requires c κs =
     let a = start d .args in
     let s = all-small (a .n) (objectsOf (a .used) (a .rows .now)) (a .premise) (d .count-rows .result) _ (d .count-rows .ensures)
     (omega (arith, length-pairs object (a .used) (a .rows .now), p .objects)) in
-    (p .attributes, search needs, s .0, s .1, p .percentage)
+    ((p .attributes, search needs, s .0), (s .1, p .percentage))
 
 returns : tie.Need-returns
 unfolding nearlyAlways
