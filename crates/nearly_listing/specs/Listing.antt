@@ -10,6 +10,8 @@ use Rattle.session.specs.declared.Refusal.{Refusal}
 use Rattle.context.specs.Objects.{objectsOf}
 use Rattle.machine.specs.Checks.{Check, check, firstFailing}
 use Rattle.machine.specs.Calls.{Words}
+use Rattle.size_checks.specs.declared.Verdict.{Verdict}
+use Rattle.size_checks.specs.Verdicts.{verdictOf}
 use Rattle.row_checks.specs.Rows.{rowChecksWith}
 use Rattle.nearly_always.specs.Nearly.{nearlyAlways, mostPercent}
 use Rattle.nearly_listing.specs.declared.Nearly.{Nearly}
@@ -17,9 +19,16 @@ use Rattle.nearly_listing.specs.declared.Nearly.the-variants.{Listed, Re
 pub mod Laws
 pub mod Places
 
--- the checks in their order: 1 to 5, where 4 covers the premise too; a percentage above 99
+-- a percentage above 99
+abbrev pub percentCheck : ℕ → Check
+percentCheck percent = check 31 (ltb mostPercent percent) 0
+
+abbrev pub PercentChecked : ℕ → Verdict → Type 0
+PercentChecked percent v = verdictOf v ≡ firstFailing (percentCheck percent ∷ [])
+
+-- the checks in their order: 1 to 5, where 4 covers the premise too; that of the percentage
 unfoldable pub listChecks : ℕ → ℕ → List ℕ → ℕ → ℕ → List Check
-listChecks n used words premise percent = rowChecksWith n used words premise ++ (check 31 (ltb mostPercent percent) 0 ∷ [])
+listChecks n used words premise percent = rowChecksWith n used words premise ++ (percentCheck percent ∷ [])
 
 -- the set, or the first check that fails
 abbrev pub listedBy : Option Refusal → ℕ → Nearly

@@ -21,7 +21,7 @@ fn check_closed(
 }
 
 // The first of two verdicts that refuses, in their order.
-fn earlier(first: size_checks::Verdict, second: size_checks::Verdict) -> size_checks::Verdict
+pub fn earlier(first: size_checks::Verdict, second: size_checks::Verdict) -> size_checks::Verdict
     ensures { λ r. ⌜ verdictOf r ≡ firstOf (verdictOf first) (verdictOf second) ⌝ }
 {
     match first {

@@ -1,16 +1,15 @@
--- What is answered, computed (`cases`, `sets`), and for every table: the first check that fails decides (`rows-refused`,
--- `percentage-refused`), and where none does the answer is the set (`all-listed`), for numbers in range (`in-range`). A set is answered
--- just where every check passes (`listed-checked`). Every refusal has the number and names the place that `Places` says (`right-place`).
-use mathlib.Core.Path.{_≡_, refl, ap, _∙_}
+-- What is answered, computed (`cases`, `sets`), and for every table: checks 1 to 5 decide, and where they pass 31 (`list-checked`); where
+-- that passes too, the numbers are in range (`in-range`). A set is answered just where every check passes (`listed-checked`). Every refusal
+-- has the number and names the place that `Places` says (`right-place`).
+use mathlib.Core.Path.{_≡_, refl, sym, ap}
 use mathlib.Core.Bool.{true}
 use mathlib.Core.Logic.{inl, inr}
-use mathlib.Core.List.{List, [], _∷_}
+use mathlib.Core.List.{List, [], _∷_, _++_}
 use mathlib.Core.Option.{Option, none, some}
-use Prim.Native.Nat.{ℕ, _≤_, _<_}
+use Prim.Native.Nat.{ℕ}
 use native.Mathlib.Omega.{arith}
 use lib.ListN.{length}
-use lib.Dec.{ltb}
-use borrow.Author.Tests.{lt-ltb, le-ltb}
+use borrow.Author.Tests.{ltb-false}
 use Rattle.theory.specs.Lists.{All}
 use Rattle.theory.specs.Lists.Laws.{all-nil, all-cons, all-append}
 use Rattle.session.specs.declared.Refusal.{Refusal}
@@ -20,15 +19,16 @@ use Rattle.attribute_set.specs.Sets.{inside, full, meets, without}
 use Rattle.implication.specs.Pairs.{pairs}
 use Rattle.context.specs.Places.{lowest, anywhere}
 use Rattle.context.specs.Objects.{objectsOf, markedTwice}
-use Rattle.machine.specs.Checks.{Check, check, firstFailing, strange}
-use Rattle.machine.specs.Checks.Laws.{passed, failing-nothing, failing-here, failing-later, failing-append, failing-first}
+use Rattle.machine.specs.Checks.{Check, firstFailing, strange}
+use Rattle.machine.specs.Checks.Laws.{passed, passed-append, none-failing, failing-append, failing-first}
 use Rattle.machine.specs.Facts.Refused.{failing-check}
+use Rattle.session_checks.specs.Checked.{firstOf}
 use Rattle.row_checks.specs.Rows.{rowChecksWith}
 use Rattle.row_checks.specs.Rows.Laws.{rows-fit-with, right-rows-with}
 use Rattle.row_checks.specs.Rows.Places.{RightRow}
 use Rattle.nearly_always.specs.Nearly.{having, exceeds, passing, nearlyAlways, mostPercent, InRange}
 use Rattle.nearly_listing.specs.declared.Nearly.the-variants.{Listed, Refused}
-use Rattle.nearly_listing.specs.Listing.{listChecks, listedBy, listing}
+use Rattle.nearly_listing.specs.Listing.{percentCheck, listChecks, listedBy, listing}
 use Rattle.nearly_listing.specs.Listing.Places.{RightPlace}
 
 -- computed, each refusal before those behind it: no attribute, an odd length, a row too many, a row with an attribute outside M, a premise
@@ -58,33 +58,27 @@ sets = (refl, refl, refl, refl, refl, refl)
 
 -- ---- which check decides
 
+-- of two lists of checks the first decides, or where it passes the second
+first-of : (cs ds : List Check) → firstOf (firstFailing cs) (firstFailing ds) ≡ firstFailing (cs ++ ds)
+first-of cs ds = go (firstFailing cs) refl
+  where
+    go : (o : Option Refusal) → firstFailing cs ≡ o → firstOf o (firstFailing ds) ≡ firstFailing (cs ++ ds)
+    go none e = sym (failing-append cs ds (passed cs e))
+    go (some r) e = sym (failing-first cs ds r e)
+
 module _ (n used : ℕ) (words : List ℕ) (premise percent : ℕ) where
-  abbrev set : ℕ
-  set = nearlyAlways n percent (objectsOf used words) premise
-
-  abbrev percentage : Check
-  percentage = check 31 (ltb mostPercent percent) 0
-
-  pub rows-refused : (r : Refusal) → firstFailing (rowChecksWith n used words premise) ≡ some r → listing n used words premise percent ≡ Refused r
+  pub list-checked : firstOf (firstFailing (rowChecksWith n used words premise)) (firstFailing (percentCheck percent ∷ []))
+      ≡ firstFailing (listChecks n used words premise percent)
   unfolding listChecks
-  rows-refused r e = ap (λ o. listedBy o set) (failing-first (rowChecksWith n used words premise) (percentage ∷ []) r e)
+  list-checked = first-of (rowChecksWith n used words premise) (percentCheck percent ∷ [])
 
-  module _ (rows : firstFailing (rowChecksWith n used words premise) ≡ none) where
-    last : firstFailing (listChecks n used words premise percent) ≡ firstFailing (percentage ∷ [])
-    unfolding listChecks
-    last = failing-append (rowChecksWith n used words premise) (percentage ∷ []) (passed (rowChecksWith n used words premise) rows)
-
-    pub percentage-refused : mostPercent < percent → listing n used words premise percent ≡ Refused (refusal 31 0)
-    percentage-refused h = ap (λ o. listedBy o set) (last ∙ failing-here percentage [] (lt-ltb mostPercent percent h))
-
-    pub all-listed : percent ≤ mostPercent → listing n used words premise percent ≡ Listed (nearlyAlways n percent (objectsOf used words) premise)
-    all-listed h =
-        ap (λ o. listedBy o set) (last ∙ failing-later percentage [] (le-ltb mostPercent percent h) ∙ failing-nothing)
-
-    pub in-range : percent ≤ mostPercent → InRange n used (length words) percent
-    in-range h =
-        let f = rows-fit-with n used words premise rows .0 in
-        record { attributes = f .attributes; objects = f .objects; places = f .places; percentage = h }
+  -- what passed checks give
+  pub in-range : firstFailing (listChecks n used words premise percent) ≡ none → InRange n used (length words) percent
+  unfolding listChecks
+  in-range e =
+      let p = passed-append (rowChecksWith n used words premise) (percentCheck percent ∷ []) e in
+      let f = rows-fit-with n used words premise (none-failing (rowChecksWith n used words premise) (p .0)) .0 in
+      record { attributes = f .attributes; objects = f .objects; places = f .places; percentage = ltb-false mostPercent percent (p .1 .0) }
 
 -- ---- where a set is answered
 
