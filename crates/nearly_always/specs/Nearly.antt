@@ -1,6 +1,7 @@
 -- Nearly always (02, request 3/13): the attributes (01: properties) outside a premise that more than so many per cent of the rows with the
--- premise have. Only a written yes counts: unknown is not yes. `Theorem` says what the set holds, with both counts as lengths of lists
--- of rows.
+-- premise have. Only a written yes counts: unknown is not yes. `Listed` says what the set holds, with both counts as lengths of lists of
+-- rows, and `Theorem` that it does.
+use mathlib.Core.Path.{_≡_}
 use mathlib.Core.Bool.{Bool, true, false}
 use mathlib.Core.List.{List, [], _∷_}
 use Prim.Native.Nat.{ℕ, zero, suc, _+_, _*_, _/_, _^_, _≤_}
@@ -9,8 +10,9 @@ use lib.Bits.{bitOr}
 use lib.Dec.{ltb}
 use Rattle.session.specs.Limits.{mostAttributes, mostObjects}
 use Rattle.attribute_set.specs.Sets.{inside, without}
-use Rattle.context.specs.Objects.{Object}
+use Rattle.context.specs.Objects.{Object, objectsOf}
 pub mod Laws
+pub mod Listed
 pub mod Theorem
 pub mod Cases
 pub mod Counting
@@ -47,3 +49,13 @@ pub record InRange (n used words percent : ℕ) : Type 0 where
   pub objects : used ≤ mostObjects
   pub places : used ≤ words / 2
   pub percentage : percent ≤ mostPercent
+
+-- a test of a fact
+pub record TestOf (b : Bool) (P : Type 0) : Type 0 where
+  pub so : b ≡ true → P
+  pub seen : P → b ≡ true
+
+-- what is given for any numbers: the set where they are in range, else the empty one
+pub record Gives (n used : ℕ) (words : List ℕ) (premise percent set : ℕ) : Type 0 where
+  pub in-range : InRange n used (length words) percent → set ≡ nearlyAlways n percent (objectsOf used words) premise
+  pub out-of-range : (InRange n used (length words) percent → ⊥) → set ≡ 0

@@ -5,8 +5,8 @@ ghost use Prim.Native.Nat.{_*_, _^_, _≤_, _<_};
 ghost use lib.ListN.{length};
 ghost use Rattle.session.specs.Limits.{mostAttributes, mostObjects};
 ghost use Rattle.context.specs.Objects.{objectsOf};
-ghost use Rattle.nearly_always.specs.Nearly.{passing, nearlyAlways, mostPercent, InRange};
-ghost use Rattle.nearly_always.specs.Nearly.Counting.{Zero, Small, Adds, CountsRow, Counted, exceedsBy, joinedBy, Decides};
+ghost use Rattle.nearly_always.specs.Nearly.{passing, nearlyAlways, mostPercent, InRange, TestOf, Gives};
+ghost use Rattle.nearly_always.specs.Nearly.Counting.{Zero, Small, Adds, CountsRow, Counted, exceedsBy, joinedBy};
 use session::Session;
 
 // The most per cent that can be asked for.
@@ -80,7 +80,7 @@ fn exceeding(counts: &[u64], n: usize, total: u64, percent: u64) -> u64
 
 // Whether the numbers are as checks 1 to 3 and 31 leave them.
 pub fn in_range(n: usize, used: usize, words: usize, percent: u64) -> bool
-    ensures { λ r. ⌜ Decides r (InRange n used words percent) ⌝ }
+    ensures { λ r. ⌜ TestOf r (InRange n used words percent) ⌝ }
 {
     if Session::ATTRIBUTES < n {
         return false;
@@ -107,8 +107,7 @@ fn list_in_range(n: usize, used: usize, rows: &[u64], premise: u64, percent: u64
 
 // The same for any numbers; the empty set where they are out of range.
 pub fn nearly_always(n: usize, used: usize, rows: &[u64], premise: u64, percent: u64) -> u64
-    ensures { λ r. ⌜ (InRange n used (length (now (rows .entry))) percent
-        → r ≡ nearlyAlways n percent (objectsOf used (now (rows .entry))) premise) ⌝ }
+    ensures { λ r. ⌜ Gives n used (now (rows .entry)) premise percent r ⌝ }
 {
     if !in_range(n, used, rows.len(), percent) {
         return 0;

@@ -6,7 +6,7 @@ ghost use Rattle.context.specs.Objects.{objectsOf};
 ghost use Rattle.text.specs.Page.{Puts};
 ghost use Rattle.nearly_always.specs.Nearly.{InRange};
 ghost use Rattle.short_premises.specs.Premises.{pairsWith, premises};
-ghost use Rattle.nearly_lines.specs.Lines.{nearlyLines};
+ghost use Rattle.nearly_lines.specs.Lines.{nearlyLines, PutsAll};
 
 // The line of one premise, with the attributes that more than so many per cent of the rows with it have.
 fn put_line(
@@ -96,8 +96,7 @@ pub fn put_lines(
     rows: &[u64],
     percent: u64,
 ) -> usize
-    ensures { λ r. ⌜ (InRange n used (length (now (rows .entry))) percent
-        → Puts out at r (nearlyLines n percent (objectsOf used (now (rows .entry))) (premises n))) ⌝ }
+    ensures { λ r. ⌜ PutsAll out at n used (now (rows .entry)) percent r ⌝ }
 {
     if !nearly_always::in_range(n, used, rows.len(), percent) {
         return at;

@@ -17,6 +17,7 @@ use Rattle.nearly_lines.specs.Lines.{nearlyLines}
 pub mod Laws
 pub mod Example
 
+-- the percentage that the program lists at
 abbrev pub percentage : ℕ
 percentage = 80
 
@@ -24,6 +25,7 @@ percentage = 80
 abbrev pub tableLines : List ℕ → Layout → List ℕ
 tableLines file l = nearlyLines (l .attributes) percentage (rowsFrom (l .objects) file (l .marks)) (premises (l .attributes))
 
+-- what is written, by what the file opens as
 abbrev pub written : List ℕ → Opened → List ℕ
 written file (Found l) = tableLines file l
 written file (Refused r) = refusalLine r

@@ -1,5 +1,4 @@
 // What the program nearly answers to the bytes that it has read (02, request 3/13): its output, and beside it why a file is refused.
-ghost use Prim.Native.Nat.{_≤_};
 ghost use lib.ListN.{length, take};
 ghost use Rattle.context.specs.Objects.{objectsOf};
 ghost use Rattle.table_layout.specs.Layout.{openedOf};

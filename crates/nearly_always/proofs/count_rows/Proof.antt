@@ -1,6 +1,6 @@
 -- The counts so far, with the rows not yet read, are those of all rows.
-use mathlib.Core.Path.{_≡_, refl, sym, ap, subst, _∙_}
-use Prim.Native.Nat.{ℕ, _+_, _-_, _*_, _≤_, _<_}
+use mathlib.Core.Path.{_≡_, refl, subst, _∙_}
+use Prim.Native.Nat.{_+_, _-_, _*_, _≤_, _<_}
 use native.Mathlib.Omega.{arith}
 use native.Mathlib.Nat.{sub-zero}
 use lib.ListN.{length, drop, getD}
@@ -9,7 +9,6 @@ use Rattle.implication.specs.Pairs.Laws.{length-pairs, pairs-at, pairs-end}
 use Rattle.context.specs.Objects.{object, objectsOf}
 use Rattle.nearly_always.specs.Nearly.Counting.{Small, CountedBut}
 use Rattle.nearly_always.specs.Nearly.Counting.Laws.{counted-start, counted-end, counted-small}
-use borrow.Author.Needs.{needs}
 use Rattle.nearly_always.proofs.count_rows.Statement.{statement}
 use Rattle.nearly_always.proofs.count_rows.Tie as tie
 

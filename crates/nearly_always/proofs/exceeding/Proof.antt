@@ -1,9 +1,9 @@
 -- The set of the attributes so far is that of the definition's test, by the counts.
-use mathlib.Core.Path.{_≡_, refl, sym, ap, subst, _∙_}
+use mathlib.Core.Path.{_≡_, sym, ap, subst, _∙_}
 use Prim.Native.Nat.{ℕ, _-_, _≤_, _<_, _^_}
 use native.Mathlib.Omega.{arith}
 use native.Mathlib.Numerals.{add-one}
-use lib.ListN.{length, getD}
+use lib.ListN.{getD}
 use Rattle.nearly_always.specs.Nearly.{passing}
 use Rattle.nearly_always.specs.Nearly.Laws.{passing-lt, passing-none}
 use Rattle.nearly_always.specs.Nearly.Counting.{exceedsBy, joinedBy}

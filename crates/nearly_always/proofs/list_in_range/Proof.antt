@@ -1,9 +1,6 @@
 -- One pass counts the rows, the counts decide, and the premise is taken away.
-use mathlib.Core.Path.{_≡_, ap, _∙_}
-use Prim.Native.Nat.{_≤_}
+use mathlib.Core.Path.{ap, _∙_}
 use native.Mathlib.Omega.{arith}
-use lib.ListN.{length}
-use Rattle.session.specs.Limits.{mostObjects}
 use Rattle.attribute_set.specs.Sets.{without}
 use Rattle.implication.specs.Pairs.Laws.{length-pairs}
 use Rattle.context.specs.Objects.{object, objectsOf}

@@ -2,7 +2,6 @@
 -- the premise is listed.
 use mathlib.Core.Path.{_≡_, refl}
 use mathlib.Core.List.{List, [], _∷_}
-use Prim.Native.Nat.{ℕ}
 use Rattle.attribute_set.specs.Sets.{inside, without}
 use Rattle.context.specs.Objects.{Object, object}
 use Rattle.nearly_always.specs.Nearly.{having, exceeds, passing, nearlyAlways}

@@ -49,13 +49,10 @@ pub record CountsRow (n premise yes total : ℕ) (before : List ℕ) (total′ :
 
 -- ---- counts that exceed
 
+-- the definition's test, by the counts
 abbrev pub exceedsBy : ℕ → ℕ → List ℕ → ℕ → Bool
 exceedsBy percent total counts j = ltb (percent * total) (100 * getD counts j 0)
 
+-- a set of attributes below j, with j where its count exceeds
 abbrev pub joinedBy : ℕ → ℕ → ℕ → ℕ → ℕ → ℕ
 joinedBy percent total counted j set = elim (ltb (percent * total) (100 * counted)) [ true ↦ 2 ^ j + set | false ↦ set ]
-
--- a test decides a fact
-pub record Decides (b : Bool) (P : Type 0) : Type 0 where
-  pub so : b ≡ true → P
-  pub seen : P → b ≡ true

@@ -6,12 +6,12 @@ use mathlib.Core.Path.{_≡_, refl, sym, ap, subst, _∙_}
 use mathlib.Core.Bool.{Bool, true, false, true≢false}
 use mathlib.Core.Logic.{_⊎_, inl, inr}
 use mathlib.Core.List.{List, [], _∷_}
-use Prim.Native.Nat.{ℕ, zero, suc, _+_, _^_, _%_, _≤_, _<_}
+use Prim.Native.Nat.{ℕ, zero, suc, _+_, _^_, _≤_, _<_}
 use native.Mathlib.Omega.{arith}
 use native.Mathlib.Nat.{mod-eq-of-lt, pow-suc}
 use lib.ListN.{length}
 use lib.Bits.{bitOr}
-use Rattle.attribute_set.specs.Sets.{digit, In, Sub, inside}
+use Rattle.attribute_set.specs.Sets.{digit, In, inside}
 use Rattle.attribute_set.specs.Sets.Laws.{lt-or-le, member-cases, member-lt, digit-lt, digit-none, inside-sub, sub-inside, outside-sub, not-inside, sub-trans, or-left, or-right, or-least}
 use Rattle.attribute_set.specs.Lectic.{raise}
 use Rattle.attribute_set.specs.Lectic.Laws.{raise-low, raise-at, single-at, single-only}
@@ -48,11 +48,11 @@ module _ (premise j y : ℕ) where
   with-both : inside premise y ≡ true → In j y → inside (bitOr premise (2 ^ j)) y ≡ true
   with-both e h = sub-inside (or-least (inside-sub premise y e) (record { at = λ i m. subst (λ (k : ℕ). In k y) (sym (single-only j i m)) h }))
 
-  with-attribute-only : digit y j ≡ 0 → inside (bitOr premise (2 ^ j)) y ≡ false
-  with-attribute-only e = not-inside (λ s. absurd (omega (arith, e, s .at j (or-right premise (2 ^ j) .at j (single-at j)))))
+  without-attribute : digit y j ≡ 0 → inside (bitOr premise (2 ^ j)) y ≡ false
+  without-attribute e = not-inside (λ s. absurd (omega (arith, e, s .at j (or-right premise (2 ^ j) .at j (single-at j)))))
 
-  with-neither : inside premise y ≡ false → inside (bitOr premise (2 ^ j)) y ≡ false
-  with-neither e = not-inside (λ s. outside-sub premise y e (sub-trans (or-left premise (2 ^ j)) s))
+  without-premise : inside premise y ≡ false → inside (bitOr premise (2 ^ j)) y ≡ false
+  without-premise e = not-inside (λ s. outside-sub premise y e (sub-trans (or-left premise (2 ^ j)) s))
 
 -- of a row with the premise the mark decides; a row without it has not both
 module _ (premise j : ℕ) (o : Object) (os : List Object) where
@@ -63,11 +63,11 @@ module _ (premise j : ℕ) (o : Object) (os : List Object) where
       go : (In j (o .yes-marks)) ⊎ (digit (o .yes-marks) j ≡ 0)
           → support (bitOr premise (2 ^ j)) (o ∷ os) ≡ digit (o .yes-marks) j + support (bitOr premise (2 ^ j)) os
       go (inl h) = omega (arith, h, support-has (bitOr premise (2 ^ j)) o os (with-both premise j (o .yes-marks) e h))
-      go (inr h) = omega (arith, h, support-lacks (bitOr premise (2 ^ j)) o os (with-attribute-only premise j (o .yes-marks) h))
+      go (inr h) = omega (arith, h, support-lacks (bitOr premise (2 ^ j)) o os (without-attribute premise j (o .yes-marks) h))
 
   pub support-without : inside premise (o .yes-marks) ≡ false
       → support (bitOr premise (2 ^ j)) (o ∷ os) ≡ support (bitOr premise (2 ^ j)) os
-  support-without e = support-lacks (bitOr premise (2 ^ j)) o os (with-neither premise j (o .yes-marks) e)
+  support-without e = support-lacks (bitOr premise (2 ^ j)) o os (without-premise premise j (o .yes-marks) e)
 
 -- no more rows have both than have the premise
 pub support-fewer : (premise j : ℕ) (os : List Object) → support (bitOr premise (2 ^ j)) os ≤ support premise os

@@ -1,7 +1,7 @@
--- What is listed, in 02's words: an attribute (01: property) is in the set just if it is one of the first n, is not in the premise, and 100
--- times the number of rows whose yes marks contain premise and attribute exceeds the percentage times the number of those whose yes marks
--- contain the premise. The rows are counted as the lengths of two lists, each of which has just those rows of the table, in their order
--- (`listed`). Nothing is listed for a premise that no row has (`none-listed`).
+-- What is listed is what `Listed` says: an attribute (01: property) is in the set just if it is one of the first n, is not in the premise,
+-- and 100 times the number of rows whose yes marks contain premise and attribute exceeds the percentage times the number of those whose
+-- yes marks contain the premise (`listed`). The rows are counted as the lengths of two lists, each of which has just those rows of the
+-- table, in their order; there is one such list (`picks`, `picks-same`). Nothing is listed for a premise that no row has (`none-listed`).
 use mathlib.Core.Path.{_≡_, refl, sym, ap, _∙_}
 use mathlib.Core.Bool.{Bool, true, false}
 use mathlib.Core.List.{List, [], _∷_}
@@ -12,47 +12,31 @@ use lib.ListN.{length}
 use lib.Bits.{bitOr}
 use lib.Dec.{eqb}
 use borrow.Author.Tests.{lt-ltb, ltb-true, eqb-true, eqb-false}
-use Rattle.attribute_set.specs.Sets.{In, Sub, inside}
+use Rattle.attribute_set.specs.Sets.{In, inside}
 use Rattle.attribute_set.specs.Sets.Laws.{digit-without, digit-lt, member-cases, some-member, inside-sub, outside-sub, sub-inside, not-inside}
 use Rattle.context.specs.Objects.{Object}
 use Rattle.nearly_always.specs.Nearly.{having, support, exceeds, passing, nearlyAlways}
+use Rattle.nearly_always.specs.Nearly.Listed.{Picks, no-rows, picked, left-out, Lists}
 use Rattle.nearly_always.specs.Nearly.Laws.{support-fewer, passing-in, passing-passes, passing-below}
-
--- the second list has just those rows of the first whose yes marks contain a set, in their order
-pub data Picks (s : ℕ) : List Object → List Object → Type 0 where
-  none : Picks s [] []
-  picked : (o : Object) {os l : List Object} → Sub s (o .yes-marks) → Picks s os l → Picks s (o ∷ os) (o ∷ l)
-  passed : (o : Object) {os l : List Object} → (Sub s (o .yes-marks) → ⊥) → Picks s os l → Picks s (o ∷ os) l
-
--- attribute p is one of the first n, outside the premise, and more than so many per cent of the rows with the premise have it
-pub record Nearly (n percent : ℕ) (os : List Object) (premise p : ℕ) : Type 0 where
-  pub of-M : p < n
-  pub outside : In p premise → ⊥
-  pub exceeding : (all both : List Object) → Picks premise os all → Picks (bitOr premise (2 ^ p)) os both → percent * length all < 100 * length both
-
--- the set has just these attributes
-pub record Lists (n percent : ℕ) (os : List Object) (premise set : ℕ) : Type 0 where
-  pub only : (p : ℕ) → In p set → Nearly n percent os premise p
-  pub every : (p : ℕ) → Nearly n percent os premise p → In p set
 
 -- ---- the list of rows
 
 pub picks : (s : ℕ) (os : List Object) → Picks s os (having s os)
 unfolding having
-picks s [] = none
+picks s [] = no-rows
 picks s (o ∷ os) = go (inside s (o .yes-marks)) refl (picks s os)
   where
     go : (b : Bool) → inside s (o .yes-marks) ≡ b → Picks s os (having s os)
         → Picks s (o ∷ os) (elim b [ true ↦ o ∷ having s os | false ↦ having s os ])
     go true e p = picked o (inside-sub s (o .yes-marks) e) p
-    go false e p = passed o (outside-sub s (o .yes-marks) e) p
+    go false e p = left-out o (outside-sub s (o .yes-marks) e) p
 
 -- no other list is one of these rows
 picks-having : (s : ℕ) {os l : List Object} → Picks s os l → l ≡ having s os
 unfolding having
-picks-having s none = refl
+picks-having s no-rows = refl
 picks-having s (picked o h p) = rw (sub-inside h, having) (ap (λ l. o ∷ l) (picks-having s p))
-picks-having s (passed o h p) = rw (not-inside h, having) (picks-having s p)
+picks-having s (left-out o h p) = rw (not-inside h, having) (picks-having s p)
 
 pub picks-same : (s : ℕ) (os l m : List Object) → Picks s os l → Picks s os m → l ≡ m
 picks-same s os l m p q = picks-having s p ∙ sym (picks-having s q)

@@ -17,7 +17,7 @@ returns c =
     let put = c .before .before in
     let set = listed put .nearly-always in
     let a = start (listed put) .args in
-    let listing = set .ensures (start (listed put) .pre) in
+    let listing = set .ensures .in-range (start (listed put) .pre) in
     rw (lines-one (a .n) (a .percent) (objectsOf (a .used) (a .rows .now)) (a .premise) (set .result) listing) (put .put-rule .ensures)
 
 pub put-line-spec : {M : Type 1} → statement M

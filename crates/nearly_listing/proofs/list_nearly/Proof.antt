@@ -47,7 +47,7 @@ returns-2 c =
     let t = c .before in
     let a = start (verdict t) .args in
     let set = nearlyAlways (a .n) (a .percent) (objectsOf (a .used) (a .rows .now)) (a .premise) in
-    ap Listed (c .nearly-always .ensures (in-range (a .n) (a .used) (a .rows .now) (a .premise) (a .percent) (passing t)))
+    ap Listed (c .nearly-always .ensures .in-range (in-range (a .n) (a .used) (a .rows .now) (a .premise) (a .percent) (passing t)))
     ∙ sym (ap (λ o. listedBy o set) (passing t))
 
 pub list-nearly-spec : {M : Type 1} → statement M

@@ -20,7 +20,7 @@ returns c =
     let d = written c in
     let w = d .put-lines in
     let a = start d .args in
-    let puts = w .ensures (start d .pre) in
+    let puts = w .ensures .in-range (start d .pre) in
     let bs = nearlyLines (a .n) percentage (objectsOf (a .used) (a .rows .now)) (premises (a .n)) in
     (puts, hands-text (a .before) (c .hand-over .result) (a .out .now) _ (w .result) bs puts (c .hand-over .ensures))
 

@@ -29,7 +29,6 @@ use Rattle.handed_output.specs.Handing.Laws.{writes-whole}
 use Rattle.nearly_always.specs.Nearly.{InRange}
 use Rattle.short_premises.specs.Premises.{premises}
 use Rattle.short_premises.specs.Premises.Theorem.{how-many}
-use Rattle.nearly_lines.specs.Lines.{nearlyLines}
 use Rattle.nearly_lines.specs.Lines.Laws.{lines-size}
 use Rattle.nearly_output.specs.Output.{percentage, tableLines, written, nearlyOutput, nearlyMost}
 

@@ -1,6 +1,6 @@
 -- However long the interview, its output is short (`size`): before the end only a reply writes a line, and there are at most
 -- 512 + 256 accepted ones and one refused.
-use mathlib.Core.Path.{_≡_, refl, sym, ap, subst, _∙_}
+use mathlib.Core.Path.{_≡_, refl, sym, subst}
 use mathlib.Core.Bool.{Bool, true, false, not}
 use mathlib.Core.List.{List, [], _∷_, _++_}
 use Prim.Native.Nat.{ℕ, zero, suc, _+_, _*_, _-_, _/_, _%_, _≤_, _<_}
@@ -11,7 +11,6 @@ use borrow.Author.Tests.{ltb-false, leb-false}
 use Rattle.theory.specs.Implications.{Implication}
 use Rattle.attribute_set.specs.Sets.{full}
 use Rattle.context.specs.Objects.{Object}
-use Rattle.session.specs.declared.Refusal.{Refusal}
 use Rattle.session.specs.Limits.{badLength, mostAttributes, mostObjects, mostImplications}
 use Rattle.machine.specs.Checks.{State, reachOf, question}
 use Rattle.machine.specs.Checks.Laws.{or-false}

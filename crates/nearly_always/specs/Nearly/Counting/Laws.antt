@@ -2,9 +2,9 @@
 -- row is left (`counted-end`). A count is at most the number of rows (`counted-small`). The counts decide what the definition's test does
 -- (`exceeds-counted`), attribute by attribute (`passing-joined`).
 use mathlib.Core.Path.{_≡_, refl, sym, ap, _∙_}
-use mathlib.Core.Bool.{Bool, true, false}
+use mathlib.Core.Bool.{true, false}
 use mathlib.Core.Logic.{_⊎_, inl, inr}
-use mathlib.Core.List.{List, [], _∷_}
+use mathlib.Core.List.{List, []}
 use Prim.Native.Nat.{ℕ, suc, _+_, _*_, _/_, _%_, _^_, _≤_, _<_}
 use native.Mathlib.Omega.{arith}
 use native.Mathlib.Nat.{div-one, pow-zero, mod-eq-of-lt, mul-le-mul, lt-of-le-of-lt, lt-of-lt-of-le}
@@ -20,7 +20,7 @@ use Rattle.attribute_set.specs.Sets.Laws.{lt-or-le}
 use Rattle.attribute_set.specs.Lectic.{raise}
 use Rattle.attribute_set.specs.Lectic.Laws.{raise-lt}
 use Rattle.context.specs.Objects.{Object, object}
-use Rattle.nearly_always.specs.Nearly.{support, exceeds, passing, mostPercent}
+use Rattle.nearly_always.specs.Nearly.{exceeds, passing, mostPercent}
 use Rattle.nearly_always.specs.Nearly.Laws.{support-has, support-lacks, support-none, support-with, support-without, support-most, passing-same}
 use Rattle.nearly_always.specs.Nearly.Counting.{Zero, Small, Adds, Adding, Counted, CountedBut, CountsRow, exceedsBy, joinedBy}
 
