@@ -12,37 +12,50 @@ pub enum ByteKind {
 fn is_digit(b: u8) -> bool
     ensures { λ r. ⌜ r ≡ isDigit b ⌝ }
 {
-    b'0' <= b && b <= b'9'
+    match b {
+        b'0'..=b'9' => true,
+        _ => false,
+    }
 }
 
 pub fn is_yes(b: u8) -> bool
     ensures { λ r. ⌜ r ≡ isYes b ⌝ }
 {
-    b == b'X' || b == b'x'
+    match b {
+        b'X' => true,
+        b'x' => true,
+        _ => false,
+    }
 }
 
 pub fn is_no(b: u8) -> bool
     ensures { λ r. ⌜ r ≡ isNo b ⌝ }
 {
-    b == b'.'
+    match b {
+        b'.' => true,
+        _ => false,
+    }
 }
 
 fn is_unknown(b: u8) -> bool
     ensures { λ r. ⌜ r ≡ isUnknown b ⌝ }
 {
-    b == b'?'
+    match b {
+        b'?' => true,
+        _ => false,
+    }
 }
 
 fn is_mark(b: u8) -> bool
     ensures { λ r. ⌜ r ≡ isMark b ⌝ }
 {
-    if is_yes(b) {
-        return true;
+    match b {
+        b'X' => true, // yes
+        b'x' => true, // yes
+        b'.' => true, // no
+        b'?' => true, // unknown
+        _ => false,
     }
-    if is_no(b) {
-        return true;
-    }
-    is_unknown(b)
 }
 
 // The byte is what is asked of it.
