@@ -1,3 +1,5 @@
 pub mod Sets
 pub mod Lectic
+pub mod Passing
+pub mod Smallest
 pub mod Words

@@ -3,6 +3,7 @@ ghost use mathlib.Core.Path.{_≡_};
 ghost use Prim.Native.Nat.{_%_, _^_, _<_, min};
 ghost use Rattle.attribute_set.specs.Sets.{digit, full, without};
 ghost use Rattle.attribute_set.specs.Lectic.{below, raise};
+ghost use Rattle.attribute_set.specs.Smallest.{Smallest};
 
 // The word that holds attribute j alone.
 fn single(j: usize) -> u64
@@ -57,4 +58,14 @@ pub fn difference(a: u64, b: u64) -> u64
     ensures { λ r. ⌜ r ≡ without a b ⌝ }
 {
     a - (a & b)
+}
+
+// The smallest member alone; the empty set where there is none.
+pub fn smallest_of(set: u64) -> u64
+    ensures { λ r. ⌜ Smallest set r ⌝ }
+{
+    if set == 0 {
+        return 0;
+    }
+    set - (set & (set - 1))
 }

@@ -1,3 +1,4 @@
 pub mod Places
 pub mod Objects
 pub mod Tables
+pub mod Implied

@@ -1,13 +1,13 @@
 -- Complete tables, and when one agrees with an object or an implication (01, "Properties, rows, rules").
 use mathlib.Core.Path.{_≡_}
 use mathlib.Core.Bool.{false}
-use mathlib.Core.List.{List, [], List·Memᴰ}
+use mathlib.Core.List.{List, List·Memᴰ}
 use Prim.Native.Nat.{ℕ}
 use lib.Bits.{bitOr}
 use Rattle.theory.specs.Lists.{All}
 use Rattle.theory.specs.Implications.{Implication}
 use Rattle.attribute_set.specs.Sets.{Sub, Apart, full, without}
-use Rattle.context.specs.Objects.{Object, object, refutes}
+use Rattle.context.specs.Objects.{Object, object, refutesWritten}
 pub mod Laws
 
 -- a complete object over n attributes: none is unknown, and none is marked both ways
@@ -36,4 +36,4 @@ pub record AgreesObject (t : List Object) (o : Object) : Type 0 where
 
 -- the table agrees with r: none of its objects refutes r, by its own marks
 abbrev pub AgreesImplication : List Object → Implication ℕ → Type 0
-AgreesImplication t r = All (λ c. refutes [] c r ≡ false) t
+AgreesImplication t r = All (λ c. refutesWritten c r ≡ false) t

@@ -4,6 +4,7 @@ use mathlib.Core.Path.{_≡_}
 use mathlib.Core.List.{List, [], _∷_}
 use Prim.Native.Nat.{ℕ}
 use lib.ListN.{replicate}
+use Rattle.theory.specs.Implications.{Implication}
 use Rattle.implication.specs.Closure.{implication}
 use Rattle.context.specs.Objects.{Object, object}
 use Rattle.session.specs.Refusals.{refusal}
@@ -18,6 +19,14 @@ lent rows list background = record { rows = rows; list = list; background = back
 -- n = 3, background {0,1} → {2}, current set {0}
 abbrev pub over : Lent → List Object → State
 over l rows = record { n = 3; lent = l; background = implication 3 4 ∷ []; rows = rows; list = []; current = 1 }
+
+-- n = 4, background {0,1,2} → {3}, current set {0}
+abbrev pub wider : Lent → List Object → State
+wider l rows = record { n = 4; lent = l; background = implication 7 8 ∷ []; rows = rows; list = []; current = 1 }
+
+-- n = 4, one rule in force, all places lent, current set {0}
+abbrev pub under : Implication ℕ → List Object → State
+under r rows = record { n = 4; lent = lent 8 8 2; background = r ∷ []; rows = rows; list = []; current = 1 }
 
 -- so many rows that mark nothing
 abbrev pub blank : ℕ → List Object
@@ -71,10 +80,16 @@ pub record Edges : Type 0 where
   -- the question is {0} → {1, 2}: a row without 0, and a row that lacks neither 1 nor 2
   pub ten-premise : perform (over (lent 4 2 2) []) (reject (object 0 2)) .answer ≡ refused (refusal 10 0)
   pub ten-conclusion : perform (over (lent 4 2 2) []) (reject (object 1 0)) .answer ≡ refused (refusal 10 0)
-  -- a yes to {0} → {1} contradicts the second row, which has 0 and lacks 2, and the third: 11 names the lowest
-  pub eleven : perform (over (lent 6 2 2) (object 2 0 ∷ object 1 4 ∷ object 1 4 ∷ [])) accept .answer ≡ refused (refusal 11 1)
+  -- under {2} → {0} a row with 2 has the premise {0}
+  pub ten-had : perform (under (implication 4 1) []) (reject (object 4 2)) .answer ≡ taken
+  -- under {0,1,2} → {3} a row with 0 and 1 that lacks 3 lacks 2, of the question {0} → {1, 2}
+  pub ten-lacked : perform (wider (lent 6 2 2) (object 1 8 ∷ [])) (reject (object 3 8)) .answer ≡ taken
+  -- under {1} → {3} the question is {0} → {2}; an offered row that contradicts lacks every attribute, and 11 refuses it
+  pub eleven-not-ten : perform (under (implication 2 8) (object 1 8 ∷ [])) (reject (object 3 8)) .answer ≡ refused (refusal 11 0)
+  -- a yes to {0} → {1, 2} contradicts the second row, which has 0 and lacks 3, and the third: 11 names the lowest
+  pub eleven : perform (wider (lent 6 2 2) (object 2 0 ∷ object 1 8 ∷ object 1 8 ∷ [])) accept .answer ≡ refused (refusal 11 1)
   -- 11 is tested before 12
-  pub eleven-before-twelve : perform (over (lent 6 0 2) (object 2 0 ∷ object 1 4 ∷ object 1 4 ∷ [])) accept .answer ≡ refused (refusal 11 1)
+  pub eleven-before-twelve : perform (wider (lent 6 0 2) (object 2 0 ∷ object 1 8 ∷ object 1 8 ∷ [])) accept .answer ≡ refused (refusal 11 1)
   -- a no that contradicts has the place 0
   pub no-contradicts : perform (over (lent 4 2 2) (object 2 0 ∷ [])) (reject (object 3 4)) .answer ≡ refused (refusal 11 0)
   -- a row that fits finds the last place, or none

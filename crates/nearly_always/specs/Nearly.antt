@@ -10,6 +10,7 @@ use lib.Bits.{bitOr}
 use lib.Dec.{ltb}
 use Rattle.session.specs.Limits.{mostAttributes, mostObjects}
 use Rattle.attribute_set.specs.Sets.{inside, without}
+use Rattle.attribute_set.specs.Passing.{passing}
 use Rattle.context.specs.Objects.{Object, objectsOf}
 pub mod Laws
 pub mod Listed
@@ -29,11 +30,6 @@ support s os = length (having s os)
 -- the percentage times the rows with the premise is exceeded by 100 times the rows with the premise and attribute p
 unfoldable pub exceeds : ℕ → List Object → ℕ → ℕ → Bool
 exceeds percent os premise p = ltb (percent * support premise os) (100 * support (bitOr premise (2 ^ p)) os)
-
--- the attributes below n that pass a test
-unfoldable pub passing : (ℕ → Bool) → ℕ → ℕ
-passing f zero = 0
-passing f (suc n) = elim (f n) [ true ↦ 2 ^ n + passing f n | false ↦ passing f n ]
 
 -- those of M outside the premise that the rows with the premise nearly always have
 unfoldable pub nearlyAlways : ℕ → ℕ → List Object → ℕ → ℕ

@@ -133,3 +133,7 @@ module _ (i : ℕ) where
   single-only k m =
       ⊎-elim (λ l. absurd (omega (arith, single-low k l, m)))
       (λ l. ⊎-elim (λ u. absurd (omega (arith, single-high k u, m))) (λ u. omega arith) (lt-or-le i k)) (lt-or-le k i)
+
+  -- it lies in every set with the attribute
+  pub single-sub : (x : ℕ) → In i x → Sub (2 ^ i) x
+  single-sub x h = record { at = λ k m. subst (λ (j : ℕ). In j x) (sym (single-only k m)) h }

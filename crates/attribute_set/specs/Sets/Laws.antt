@@ -202,6 +202,13 @@ pub meets-apart : (x y : ℕ) → meets x y ≡ false → Apart x y
 unfolding meets
 meets-apart x y e = and-apart x y (eqb-true _ _ (not-false _ e))
 
+pub some-meets : (x y i : ℕ) → In i x → In i y → meets x y ≡ true
+some-meets x y i a b = go (meets x y) refl
+  where
+    go : (t : Bool) → meets x y ≡ t → t ≡ true
+    go true e = refl
+    go false e = absurd (meets-apart x y e .at i a b)
+
 pub apart-meets : {x y : ℕ} → Apart x y → meets x y ≡ false
 unfolding meets
 apart-meets {x} {y} h = ap not (eq-eqb _ _ (apart-and h))

@@ -12,14 +12,15 @@ use Rattle.theory.specs.Lists.Laws.{all-nil, all-cons}
 use Rattle.theory.specs.Implications.{Implication, Respects, Closed, Over}
 use Rattle.attribute_set.specs.Sets.{In, Sub, Apart, full}
 use Rattle.attribute_set.specs.Sets.Laws.{sub-refl, sub-trans, sub-antisym, apart-sub, or-left, or-right, or-least, strip, without-sub, without-apart, without-great, without-or}
+use Rattle.attribute_set.specs.Lectic.Laws.{single-sub}
 use Rattle.attribute_set.specs.Words.{words}
 use Rattle.implication.specs.Closure.{closure, follows}
 use Rattle.implication.specs.Closure.Laws.{closure-least, closure-inside, follows-sub, sub-follows}
-use Rattle.context.specs.Objects.{Object, has, lacks, refutes, contradicts}
-use Rattle.context.specs.Objects.Laws.{has-written, lacks-written, refutes-has, refutes-lacks, not-refutes, spares, contradicts-apart, apart-contradicts}
+use Rattle.context.specs.Objects.{Object, lacks, refutes, refutesWritten, contradicts}
+use Rattle.context.specs.Objects.Laws.{has-closure, apart-lacks, refutes-has, refutes-lacks, not-written, written-spares, contradicts-apart, apart-contradicts}
 use Rattle.context.specs.Tables.{Complete, Table, completed, Extends, AgreesObject, AgreesImplication}
 
-swap : {x y : ℕ} → Apart x y → Apart y x
+pub swap : {x y : ℕ} → Apart x y → Apart y x
 swap h = record { at = λ i a b. h .at i b a }
 
 -- ---- complete objects
@@ -32,14 +33,16 @@ completed-complete n {s} h = record {
 
 -- a complete object refutes what its yes marks do not respect, and nothing else
 module _ {n : ℕ} {c : Object} (whole : Complete n c) where
-  pub complete-respects : {r : Implication ℕ} → Over words (full n) r → refutes [] c r ≡ false → Respects words r (c .yes-marks)
-  complete-respects {r} over e h =
-      strip (c .yes-marks) (rw lacks-written at (not-refutes [] c r e (rw has-written h)))
-      (sub-trans (over .conclusion) (rw (← whole .whole) (or-least (or-right (c .no-marks) _) (or-left _ (c .yes-marks)))))
+  -- what it does not lack it has
+  pub complete-strip : {x : ℕ} → Sub x (full n) → Apart x (c .no-marks) → Sub x (c .yes-marks)
+  complete-strip h a =
+      strip (c .yes-marks) a (sub-trans h (rw (← whole .whole) (or-least (or-right (c .no-marks) _) (or-left _ (c .yes-marks)))))
 
-  pub respects-spares : {r : Implication ℕ} → Respects words r (c .yes-marks) → refutes [] c r ≡ false
-  respects-spares {r} h =
-      spares [] c r (λ k. rw lacks-written (apart-sub (h (rw has-written at k)) (sub-refl _) (whole .apart)))
+  pub complete-respects : {r : Implication ℕ} → Over words (full n) r → refutesWritten c r ≡ false → Respects words r (c .yes-marks)
+  complete-respects {r} over e h = complete-strip (over .conclusion) (not-written c r e h)
+
+  pub respects-spares : {r : Implication ℕ} → Respects words r (c .yes-marks) → refutesWritten c r ≡ false
+  respects-spares {r} h = written-spares c r (λ k. apart-sub (h k) (sub-refl _) (whole .apart))
 
 -- ---- tables
 
@@ -57,35 +60,40 @@ no-contradiction n t rs o table over agrees a =
     (closure-least rs (o .yes-marks) .least (a .by .yes-marks) (agreeing-closed n t rs table over agrees (a .by) (a .member)) (a .extends .yes-marks))
     (a .extends .no-marks) (table (a .by) (a .member) .apart))
 
--- an object that does not contradict the implications has all its marks in the completed closure of its yes marks
+-- a set above the yes marks of an object and apart from its no marks, completed, has all its marks
+pub completes-set : (n : ℕ) {o : Object} {s : ℕ} → Sub (o .yes-marks) s → Sub (o .no-marks) (full n) → Apart s (o .no-marks) → Extends o (completed n s)
+completes-set n above inside apart = record { yes-marks = above; no-marks = without-great inside (swap apart) }
+
+-- so has the closure of its yes marks, where it does not contradict the implications
 pub completes : (n : ℕ) (rs : List (Implication ℕ)) (o : Object) → Sub (o .no-marks) (full n) → contradicts rs o ≡ false
     → Extends o (completed n (closure rs (o .yes-marks)))
-completes n rs o h e = record {
-  yes-marks = closure-least rs (o .yes-marks) .above;
-  no-marks = without-great h (swap (contradicts-apart rs o e));
-}
+completes n rs o h e = completes-set n (closure-least rs (o .yes-marks) .above) h (contradicts-apart rs o e)
 
 -- the completion of a closed set refutes no implication
-pub completed-agrees : (n : ℕ) (rs : List (Implication ℕ)) {s : ℕ} → Closed words rs s → All (λ r. refutes [] (completed n s) r ≡ false) rs
+pub completed-agrees : (n : ℕ) (rs : List (Implication ℕ)) {s : ℕ} → Closed words rs s → All (λ r. refutesWritten (completed n s) r ≡ false) rs
 completed-agrees n rs {s} closed r m =
-    spares [] (completed n s) r (λ k. rw lacks-written (apart-sub (closed r m (rw has-written at k)) (sub-refl _) (swap (without-apart (full n) s))))
+    written-spares (completed n s) r (λ k. apart-sub (closed r m k) (sub-refl _) (swap (without-apart (full n) s)))
 
--- an object refutes what one with fewer marks refutes
-pub refutes-extended : (rs : List (Implication ℕ)) {o c : Object} (r : Implication ℕ) → Extends o c → refutes rs o r ≡ true → refutes [] c r ≡ true
-refutes-extended rs {o} {c} r h e = go (refutes [] c r) refl
+-- what an object refutes where the implications are in force, a complete one that extends it and respects them refutes by its own marks
+pub refutes-extended : (n : ℕ) (rs : List (Implication ℕ)) {o c : Object} (r : Implication ℕ) → Over words (full n) r → Complete n c
+    → Closed words rs (c .yes-marks) → Extends o c → refutes rs o r ≡ true → refutesWritten c r ≡ true
+refutes-extended n rs {o} {c} r over whole closed h e = go (refutesWritten c r) refl
   where
-    has-more : Sub (r .premise) (has [] c)
-    has-more = rw has-written (sub-trans (rw has-written at (refutes-has rs o r e)) (h .yes-marks))
+    has-premise : Sub (r .premise) (c .yes-marks)
+    has-premise = sub-trans (refutes-has rs o r e) (rw has-closure (closure-least rs (o .yes-marks) .least (c .yes-marks) closed (h .yes-marks)))
 
     lacked : (i : ℕ) × In i (r .conclusion) × In i (lacks rs o)
     lacked = refutes-lacks rs o r e
 
-    lacks-more : In (lacked .0) (lacks [] c)
-    lacks-more = rw lacks-written (h .no-marks .at (lacked .0) (rw lacks-written at (lacked .2)))
+    -- the closure with the lacked attribute would lie in the yes marks of c, and it meets its no marks
+    not-had : In (lacked .0) (c .yes-marks) → ⊥
+    not-had i =
+        let inside = closure-least rs _ .least (c .yes-marks) closed (or-least (h .yes-marks) (single-sub (lacked .0) _ i)) in
+        apart-lacks rs o (lacked .0) (apart-sub inside (h .no-marks) (whole .apart)) (lacked .2)
 
-    go : (b : Bool) → refutes [] c r ≡ b → refutes [] c r ≡ true
-    go true q = q
-    go false q = absurd (not-refutes [] c r q has-more .at (lacked .0) (lacked .1) lacks-more)
+    go : (b : Bool) → refutesWritten c r ≡ b → b ≡ true
+    go true q = refl
+    go false q = absurd (not-had (complete-respects whole over q has-premise .at (lacked .0) (lacked .1)))
 
 -- ---- following
 
@@ -106,7 +114,7 @@ follows-tables n rs over r h = (holds, found)
     found : ((t : List Object) → Table n t → All (AgreesImplication t) rs → AgreesImplication t r) → follows rs r ≡ true
     found f =
         let whole : Complete n (completed n s) = completed-complete n (closure-inside rs n over (h .premise)) in
-        let none : refutes [] (completed n s) r ≡ false =
+        let none : refutesWritten (completed n s) r ≡ false =
         f (completed n s ∷ []) (all-cons whole (all-nil _))
         (λ y m. all-cons (completed-agrees n rs (closure-least rs (r .premise) .member) y m) (all-nil _)) (completed n s) (List·Memᴰ·head refl) in
         sub-follows rs r (complete-respects whole h none (closure-least rs (r .premise) .above))

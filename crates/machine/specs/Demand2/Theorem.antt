@@ -19,7 +19,7 @@ use Rattle.implication.specs.Closure.{closure}
 use Rattle.implication.specs.Closure.Laws.{closure-least, closure-inside}
 use Rattle.context.specs.Places.{lowest, anywhere}
 use Rattle.context.specs.Places.Laws.{anywhere-false, anywhere-true}
-use Rattle.context.specs.Objects.{Object, refutes, contradicts}
+use Rattle.context.specs.Objects.{Object, refutesWritten, contradicts}
 use Rattle.reach.specs.Reach.Laws.{reach-inside}
 use Rattle.context.specs.Tables.{Complete, Table, AgreesObject, AgreesImplication, completed}
 use Rattle.context.specs.Tables.Laws.{completed-complete, completes, completed-agrees, no-contradiction}
@@ -89,7 +89,7 @@ module _ (n : ℕ) (rs : List (Implication ℕ)) (rows : List Object) (over : Al
   unfolding closures complete
   closures-rules r m c k =
       let t = Memᴰ·of-map (complete n rs) rows k in
-      subst (λ x. refutes [] x r ≡ false) (t .2) (completed-agrees n rs (closure-least rs (t .0 .yes-marks) .member) r m)
+      subst (λ x. refutesWritten x r ≡ false) (t .2) (completed-agrees n rs (closure-least rs (t .0 .yes-marks) .member) r m)
 
 -- ---- the two replies
 

@@ -9,7 +9,7 @@ use Prim.Native.Nat.{ℕ, _≤_}
 use lib.ListN.{length}
 use Rattle.theory.specs.Lists.{All}
 use Rattle.theory.specs.Lists.Laws.{all-nil, all-cons, all-append, all-take, all-drop}
-use Rattle.theory.specs.Implications.{Implication, Background, Least}
+use Rattle.theory.specs.Implications.{Implication, Background, Closed, Least}
 use Rattle.theory.specs.Implications.Laws.{≡-dec}
 use Rattle.theory.specs.Canonical.{Model, Canonical}
 use Rattle.theory.specs.Canonical.Minimal.{minimal-list}
@@ -26,7 +26,7 @@ use Rattle.context.specs.Objects.Laws.{spares, not-refutes, consistent-apart}
 use Rattle.reach.specs.Reach.{reach}
 use Rattle.reach.specs.Reach.Laws.{reach-great}
 use Rattle.context.specs.Tables.{Table, AgreesImplication, AgreesObject}
-use Rattle.context.specs.Tables.Laws.{follows-tables, refutes-extended}
+use Rattle.context.specs.Tables.Laws.{agreeing-closed, follows-tables, refutes-extended}
 use Rattle.machine.specs.Checks.{Lent, State, force}
 use Rattle.machine.specs.Machine.{Call, run, opening, opened, openingState}
 use Rattle.machine.specs.Machine.Laws.{finished-full, opened-is}
@@ -97,12 +97,16 @@ agreed-all t [] h = all-nil _
 agreed-all t (agreed q ∷ rs) h = all-cons (h (agreed q) (List·Memᴰ·head refl)) (agreed-all t rs (λ r m. h r (List·Memᴰ·tail m)))
 agreed-all t (offered o ∷ rs) h = agreed-all t rs (λ r m. h r (List·Memᴰ·tail m))
 
--- an object of which the table has a completion refutes nothing that holds in the table
-pub unrefuted-by : (t : List Object) (rs : List (Implication ℕ)) (o : Object) (r : Implication ℕ) → AgreesObject t o → AgreesImplication t r → refutes rs o r ≡ false
-unrefuted-by t rs o r a h = go (refutes rs o r) refl
+-- an object of which a table that agrees with the implications in force has a completion refutes nothing that holds in the table
+pub unrefuted-by : (n : ℕ) (t : List Object) (rs : List (Implication ℕ)) → Table n t → All (OverM n) rs → All (AgreesImplication t) rs
+    → (o : Object) (r : Implication ℕ) → OverM n r → AgreesObject t o → AgreesImplication t r → refutes rs o r ≡ false
+unrefuted-by n t rs table over agrees o r i a h = go (refutes rs o r) refl
   where
+    closed : Closed words rs (a .by .yes-marks)
+    closed = agreeing-closed n t rs table over agrees (a .by) (a .member)
+
     go : (b : Bool) → refutes rs o r ≡ b → b ≡ false
-    go true e = absurd (true≢false (sym (refutes-extended rs r (a .extends) e) ∙ h (a .by) (a .member)))
+    go true e = absurd (true≢false (sym (refutes-extended n rs r i (table (a .by) (a .member)) closed (a .extends) e) ∙ h (a .by) (a .member)))
     go false e = refl
 
 -- after a finished interview just those implications follow that hold in a table to which it was truthful
@@ -146,7 +150,11 @@ module _ (n : ℕ) (lent : Lent) (background : List (Implication ℕ)) (rows : L
 
   true-end : Finished end → (t : List Object) → Truthful t start calls
       → (r : Implication ℕ) → OverM n r → (follows (background ++ end .list) r ≡ true) ↔ AgreesImplication t r
-  true-end f t h r i = (λ e. follows-tables n (background ++ end .list) over-end r i .0 e t complete rules, λ a. after-calls .decided f r i .1 (λ x m. unrefuted-by t (force end) x r (h .rows x m) a))
+  true-end f t h r i = (
+    λ e. follows-tables n (background ++ end .list) over-end r i .0 e t complete rules,
+    λ a. after-calls .decided f r i .1 (λ x m. subst (λ b. refutes (b ++ end .list) x r ≡ false) (sym end-background)
+        (unrefuted-by n t (background ++ end .list) complete over-end rules x r i (h .rows x m) a)),
+  )
     where
       complete : Table n t
       complete = subst (λ (x : State). Table (x .n) t) is-start (h .complete)

@@ -1,10 +1,11 @@
 -- The marked cases hold: each is computed.
 use mathlib.Core.Path.{refl}
 use Rattle.attribute_set.specs.Sets.{full, without, inside, meets}
+use Rattle.attribute_set.specs.Passing.{passing}
 use Rattle.implication.specs.Closure.{fire, pass, close, closure}
 use Rattle.next_set.specs.Next.{fits, nextBelow}
 use Rattle.context.specs.Places.{lowest, anywhere}
-use Rattle.context.specs.Objects.{has, lacks, refutes, markedTwice, contradicts}
+use Rattle.context.specs.Objects.{has, excludes, lacks, refutes, markedTwice, contradicts}
 use Rattle.reach.specs.Reach.{cut, narrow, reach}
 use Rattle.session.specs.Limits.{badLength}
 use Rattle.machine.specs.Checks.{standing, questionStands, firstFailing, strange, outsideM, sessionChecks, yesChecks, noChecks}
@@ -12,7 +13,7 @@ use Rattle.machine.specs.Machine.{performStep, performed, checksOf, perf
 use Rattle.machine.specs.Marked.{Marked}
 
 pub marked : Marked
-unfolding full without inside meets fire pass close closure fits nextBelow lowest anywhere has lacks refutes markedTwice contradicts cut narrow reach standing questionStands firstFailing badLength strange outsideM sessionChecks yesChecks noChecks performStep performed checksOf perform opening
+unfolding full without inside meets fire pass close closure fits nextBelow lowest anywhere passing has excludes lacks refutes markedTwice contradicts cut narrow reach standing questionStands firstFailing badLength strange outsideM sessionChecks yesChecks noChecks performStep performed checksOf perform opening
 marked = record {
   a = refl;
   b = refl;
@@ -23,9 +24,11 @@ marked = record {
   g = refl;
   h = refl;
   i = refl;
-  j-accepted = refl;
+  j = refl;
   j-reach = refl;
   k-opened = refl;
   k-finished = refl;
+  m-asked = refl;
+  m = refl;
   l = refl;
 }

@@ -12,7 +12,7 @@ use Rattle.attribute_set.specs.Sets.Laws.{sub-refl, sub-trans, sub-antisym, sub
 use Rattle.implication.specs.Closure.{implication}
 use Rattle.implication.specs.Pairs.Laws.{pairs-whole}
 use Rattle.context.specs.Objects.{Object, object, objectsOf, has, lacks, refutes}
-use Rattle.context.specs.Objects.Laws.{has-more, lacks-more, whole, lacks-written, lacks-none, not-refutes, spares}
+use Rattle.context.specs.Objects.Laws.{has-more, lacks-more, whole, unmarked-lacks, lacks-none, not-refutes, spares}
 use Rattle.reach.specs.Reach.{cut, narrow, reach}
 
 module _ (rs : List (Implication ℕ)) (p : ℕ) where
@@ -106,7 +106,7 @@ pub reach-whole : (rs : List (Implication ℕ)) (n count : ℕ) (ws : List ℕ) 
     → reach rs n (objectsOf count ws) p ≡ reach rs n (objectsOf (whole count ws) ws) p
 unfolding reach
 reach-whole rs n count ws p =
-    let t = pairs-whole object (λ o. lacks rs o ≡ 0) (λ a. lacks-written rs (object a 0)) count ws in
+    let t = pairs-whole object (λ o. lacks rs o ≡ 0) (λ a. unmarked-lacks rs (object a 0) refl) count ws in
     ap (λ os. narrow rs p os (full n)) (t .1) ∙ narrow-append rs p (objectsOf (whole count ws) ws) (t .0) (full n)
     ∙ narrow-idle rs p (t .0) (t .2) _
 
