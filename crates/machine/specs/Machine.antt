@@ -11,7 +11,7 @@ use Rattle.implication.specs.Closure.{closure, follows}
 use Rattle.next_set.specs.Next.{next}
 use Rattle.context.specs.Objects.{Object, firstRefuting}
 use Rattle.session.specs.declared.Refusal.{Refusal}
-use Rattle.machine.specs.Checks.{Lent, State, Check, firstFailing, sessionChecks, yesChecks, noChecks, force, whole, tight, open-question, standing, question, withQuestion}
+use Rattle.machine.specs.Checks.{Lent, State, Check, firstFailing, sessionChecks, yesChecks, noChecks, force, whole, tight, open-question, standing, question}
 pub mod Laws
 
 -- the calls of a session, with any arguments
@@ -55,10 +55,20 @@ moveTo s p = record { n = s .n; lent = s .lent; background = s .background; rows
 abbrev pub afterMove : State → State
 afterMove s = moveTo s (next (force s) (s .n) (s .current))
 
--- a yes: the question in the list, and the next set under the implications then in force
+-- an implication more in the list, and the next set under the implications then in force
+abbrev pub agreeing : State → Implication ℕ → State
+agreeing s q = record {
+  n = s .n;
+  lent = s .lent;
+  background = s .background;
+  rows = s .rows;
+  list = s .list ++ (q ∷ []);
+  current = next (s .background ++ (s .list ++ (q ∷ []))) (s .n) (s .current);
+}
+
+-- a yes: the question in the list
 abbrev pub afterYes : State → State
-afterYes s =
-    record { n = s .n; lent = s .lent; background = s .background; rows = s .rows; list = s .list ++ (question s ∷ []); current = next (withQuestion s) (s .n) (s .current) }
+afterYes s = agreeing s (question s)
 
 -- a no: one row more
 abbrev pub afterNo : State → Object → State

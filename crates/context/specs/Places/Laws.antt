@@ -95,3 +95,11 @@ module _ {A : Type 0} (f : A → Bool) where
 
   pub lowest-append-none : (k l : List A) → length k ≤ lowest f k → All (λ x. f x ≡ false) l → lowest f (k ++ l) ≡ length (k ++ l)
   lowest-append-none k l h none = lowest-none (k ++ l) (all-append k l (none-lowest k h) none)
+
+-- tests that agree on every member have the same lowest place
+pub lowest-same : {A : Type 0} (f g : A → Bool) (l : List A) → All (λ x. f x ≡ g x) l → lowest f l ≡ lowest g l
+unfolding lowest
+lowest-same f g [] h = refl
+lowest-same f g (x ∷ l) h =
+    ap (λ b. elim b as (λ y. ℕ) [ true ↦ 0 | false ↦ suc (lowest f l) ]) (h x (List·Memᴰ·head refl))
+    ∙ ap (λ (k : ℕ). elim (g x) [ true ↦ 0 | false ↦ suc k ]) (lowest-same f g l (λ y m. h y (List·Memᴰ·tail m)))
