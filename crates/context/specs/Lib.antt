@@ -2,3 +2,4 @@ pub mod Places
 pub mod Objects
 pub mod Tables
 pub mod Implied
+pub mod Parts

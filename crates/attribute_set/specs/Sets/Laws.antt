@@ -261,3 +261,11 @@ full-member n i h = member-lt (full n) i n (full-lt n) h
 -- and every attribute below n is one
 pub member-full : (n i : ℕ) → i < n → In i (full n)
 member-full n i h = lt-sub-full (2 ^ i) n (pow-lt h) .at i (rw (div-self (pow-pos i)))
+
+-- only what it shares with a set is taken from it, and the empty set takes nothing
+pub without-and : (x y : ℕ) → without x (bitAnd x y) ≡ without x y
+without-and x y =
+    ext _ _ (λ i. omega (arith, digit-without x (bitAnd x y) i, digit-and x y i, digit-without x y i, digit-lt x i, digit-lt y i))
+
+pub without-none : (x : ℕ) → without x 0 ≡ x
+without-none x = ext _ _ (λ i. omega (arith, digit-without x 0 i, digit-none i))

@@ -6,7 +6,8 @@ use mathlib.Core.List.{List, _∷_, _++_}
 use Prim.Native.Nat.{ℕ, suc, _/_, _^_, _≤_, _<_, min}
 use native.Mathlib.Omega.{arith}
 use lib.ListN.{length}
-use lib.Bits.{bitOr}
+use lib.Bits.{bitAnd, bitOr}
+use borrow.Author.Tests.{ne-eqb}
 use Rattle.theory.specs.Lists.{All}
 use Rattle.theory.specs.Implications.{Implication}
 use Rattle.attribute_set.specs.Sets.{digit, In, Sub, Apart, meets}
@@ -183,6 +184,10 @@ contradicts-apart rs o e = meets-apart _ _ e
 pub apart-contradicts : (rs : List (Implication ℕ)) (o : Object) → Apart (closure rs (o .yes-marks)) (o .no-marks) → contradicts rs o ≡ false
 unfolding contradicts
 apart-contradicts rs o h = apart-meets h
+
+pub met-contradicts : (rs : List (Implication ℕ)) (o : Object) → (bitAnd (closure rs (o .yes-marks)) (o .no-marks) ≡ 0 → ⊥) → contradicts rs o ≡ true
+unfolding contradicts meets
+met-contradicts rs o n = rw (ne-eqb _ _ n) refl
 
 -- with more implications in force an object counts as having and lacking no less
 pub has-more : (rs ts : List (Implication ℕ)) (o : Object) → Sub (has rs o) (has (rs ++ ts) o)

@@ -1,18 +1,20 @@
 -- The reach is the largest subset X of M for which no object refutes P → X: it lies inside M (`reach-inside`), no object
 -- refutes P → reach (`reach-spared`), and each such X lies inside it (`reach-largest`).
 -- One object more leaves less, and objects that lack nothing change nothing.
-use mathlib.Core.Path.{_≡_, refl, ap, _∙_}
+use mathlib.Core.Path.{_≡_, refl, sym, ap, _∙_}
 use mathlib.Core.Bool.{false}
 use mathlib.Core.List.{List, [], _∷_, _++_, List·Memᴰ, List·Memᴰ·head, List·Memᴰ·tail}
 use Prim.Native.Nat.{ℕ}
 use Rattle.theory.specs.Lists.{All}
 use Rattle.theory.specs.Implications.{Implication}
 use Rattle.attribute_set.specs.Sets.{Sub, Apart, full, without}
-use Rattle.attribute_set.specs.Sets.Laws.{sub-refl, sub-trans, sub-antisym, sub-inside, not-inside, sub-dec, apart-sub, without-sub, without-apart, without-great}
+use Rattle.attribute_set.specs.Sets.Laws.{sub-refl, sub-trans, sub-antisym, sub-inside, not-inside, sub-dec, apart-sub, without-sub, without-apart, without-great, without-and, without-none}
 use Rattle.implication.specs.Closure.{implication}
 use Rattle.implication.specs.Pairs.Laws.{pairs-whole}
 use Rattle.context.specs.Objects.{Object, object, objectsOf, has, lacks, refutes}
 use Rattle.context.specs.Objects.Laws.{has-more, lacks-more, whole, unmarked-lacks, lacks-none, not-refutes, spares}
+use Rattle.context.specs.Parts.{refutedPart}
+use Rattle.context.specs.Parts.Laws.{part-taken, part-left}
 use Rattle.reach.specs.Reach.{cut, narrow, reach}
 
 module _ (rs : List (Implication ℕ)) (p : ℕ) where
@@ -35,6 +37,14 @@ module _ (rs : List (Implication ℕ)) (p : ℕ) where
         go : Dec (Sub p (has rs o)) → P (cut rs p o x)
         go (yes h) = rw (cut-taken h) (in′ h)
         go (no n) = rw (cut-left n) (out n)
+
+    -- what is taken away is what o refutes of x
+    pub cut-part : cut rs p o x ≡ without x (refutedPart rs o (implication p x))
+    cut-part = go (sub-dec p (has rs o))
+      where
+        go : Dec (Sub p (has rs o)) → cut rs p o x ≡ without x (refutedPart rs o (implication p x))
+        go (yes h) = cut-taken h ∙ sym (ap (without x) (part-taken rs o (implication p x) h) ∙ without-and x (lacks rs o))
+        go (no n) = cut-left n ∙ sym (ap (without x) (part-left rs o (implication p x) n) ∙ without-none x)
 
     pub cut-inside : Sub (cut rs p o x) x
     cut-inside = cut-cases (λ y. Sub y x) (λ h. without-sub x (lacks rs o)) (λ h. sub-refl x)

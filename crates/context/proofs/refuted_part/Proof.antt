@@ -1,0 +1,56 @@
+-- The object has not the premise, or it contradicts and lacks everything, or what it lacks is told.
+use mathlib.Core.Path.{_≡_, sym, ap, subst, _∙_}
+use mathlib.Core.Bool.{true}
+use mathlib.Core.List.{List}
+use Prim.Native.Nat.{ℕ}
+use lib.Bits.{bitAnd}
+use borrow.Author.Needs.{needs}
+use Rattle.theory.specs.Implications.{Implication}
+use Rattle.attribute_set.specs.Sets.{Sub}
+use Rattle.attribute_set.specs.Sets.Laws.{and→sub, sub→and}
+use Rattle.implication.specs.Closure.{implication, inForce}
+use Rattle.context.specs.Objects.{Object, object, has, contradicts}
+use Rattle.context.specs.Objects.Laws.{has-closure, met-contradicts}
+use Rattle.context.specs.Parts.Laws.{part-left, part-taken, part-contradicting}
+use Rattle.context.proofs.refuted_part.Statement.{statement}
+use Rattle.context.proofs.refuted_part.Tie as tie
+
+abbrev start : tie.After-closure-of → tie.Start
+start c = c .before .before .before
+
+-- the implications in force, the object, and the implication
+abbrev force : tie.After-closure-of → List (Implication ℕ)
+force c = let a = start c .args in inForce (a .background .now) (a .list .now) (a .rules)
+
+abbrev row : tie.After-closure-of → Object
+row c = let a = start c .args in object (a .yes) (a .no)
+
+abbrev rule : tie.After-closure-of → Implication ℕ
+rule c = let a = start c .args in implication (a .premise) (a .conclusion)
+
+had : (c : tie.After-closure-of) → c .closure-of .result ≡ has (force c) (row c)
+had c = c .closure-of .ensures ∙ sym (has-closure (force c) (row c))
+
+-- the premise is had
+taken : (c : tie.Else1) → Sub (rule (c .before) .premise) (has (force (c .before)) (row (c .before)))
+taken c = subst (λ h. Sub (rule (c .before) .premise) h) (had (c .before)) (and→sub _ _ (c .if1 .left))
+
+returns : tie.Need-returns
+returns c =
+    let d = c .before in
+    sym (part-left (force d) (row d) (rule d) (λ h. c .if1 .taken (ap (bitAnd (rule d .premise)) (had d) ∙ sub→and h)))
+
+returns-2 : tie.Need-returns-2
+returns-2 c =
+    let d = c .before .before in
+    let k = met-contradicts (force d) (row d) (λ e. c .if2 .taken (ap (λ (x : ℕ). bitAnd x (row d .no-marks)) (d .closure-of .ensures) ∙ e)) in
+    sym (part-taken (force d) (row d) (rule d) (taken (c .before)) ∙ part-contradicting (force d) (row d) (rule d) k (start d .fits .conclusion .fits))
+
+returns-3 : tie.Need-returns-3
+returns-3 c =
+    let d = c .before .before .before in
+    c .lacked-among .ensures ∙ sym (part-taken (force d) (row d) (rule d) (taken (c .before .before)))
+
+pub refuted-part-spec : {M : Type 1} → statement M
+refuted-part-spec =
+    tie.close (tie.spec (λ c κs. search needs) returns returns-2 (λ c κs. (c .before .before .closure-of .ensures, c .if2 .left)) returns-3)
