@@ -5,7 +5,8 @@ ghost use Prim.Native.Nat.{_*_, _^_, _≤_, _<_};
 ghost use lib.ListN.{length};
 ghost use Rattle.session.specs.Limits.{mostAttributes, mostObjects};
 ghost use Rattle.context.specs.Objects.{objectsOf};
-ghost use Rattle.nearly_always.specs.Nearly.{passing, nearlyAlways, mostPercent, InRange, TestOf, Gives};
+ghost use Rattle.attribute_set.specs.Passing.{passing};
+ghost use Rattle.nearly_always.specs.Nearly.{nearlyAlways, mostPercent, InRange, TestOf, Gives};
 ghost use Rattle.nearly_always.specs.Nearly.Counting.{Zero, Small, Adds, CountsRow, Counted, exceedsBy, joinedBy};
 use session::Session;
 

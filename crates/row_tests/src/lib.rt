@@ -32,7 +32,7 @@ pub fn check_row(
     if bad_row(session.n, yes, no) {
         return size_checks::refused(9, 0);
     }
-    if !context::refuted_by(yes, no, premise, conclusion) {
+    if !context::refuted_by(background, list, rules, yes, no, premise, conclusion) {
         return size_checks::refused(10, 0);
     }
     let closure = implication::closure_of(background, list, rules, yes);

@@ -69,7 +69,15 @@ pub fn refuted(
     if let size_checks::Verdict::Refused(refusal) = verdict {
         return Refuting::Refused(refusal);
     }
-    let row = context::first_refuting(rows, used, premise, conclusion);
+    let row = context::first_refuting(
+        rows,
+        used,
+        background,
+        list,
+        session.rules,
+        premise,
+        conclusion,
+    );
     if row < used {
         return Refuting::By(row);
     }

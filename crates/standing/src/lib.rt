@@ -35,7 +35,15 @@ pub fn find_standing(
     if current == attribute_set::full_set(n) {
         return Standing::Full;
     }
-    let x = reach::reach_of(n, rows, session.rows, current);
+    let x = reach::reach_of(
+        n,
+        rows,
+        session.rows,
+        background,
+        list,
+        session.rules,
+        current,
+    );
     if x == current {
         return Standing::Tight;
     }

@@ -4,8 +4,8 @@ use Prim.Native.Nat.{ℕ, _-_, _≤_, _<_, _^_}
 use native.Mathlib.Omega.{arith}
 use native.Mathlib.Numerals.{add-one}
 use lib.ListN.{getD}
-use Rattle.nearly_always.specs.Nearly.{passing}
-use Rattle.nearly_always.specs.Nearly.Laws.{passing-lt, passing-none}
+use Rattle.attribute_set.specs.Passing.{passing}
+use Rattle.attribute_set.specs.Passing.Laws.{passing-lt, passing-none}
 use Rattle.nearly_always.specs.Nearly.Counting.{exceedsBy, joinedBy}
 use Rattle.nearly_always.specs.Nearly.Counting.Laws.{passing-joined}
 use borrow.Author.Needs.{needs}

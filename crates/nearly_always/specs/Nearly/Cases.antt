@@ -3,8 +3,9 @@
 use mathlib.Core.Path.{_≡_, refl}
 use mathlib.Core.List.{List, [], _∷_}
 use Rattle.attribute_set.specs.Sets.{inside, without}
+use Rattle.attribute_set.specs.Passing.{passing}
 use Rattle.context.specs.Objects.{Object, object}
-use Rattle.nearly_always.specs.Nearly.{having, exceeds, passing, nearlyAlways}
+use Rattle.nearly_always.specs.Nearly.{having, exceeds, nearlyAlways}
 
 -- document 01's table: XX., .X., .XX, ...
 abbrev pub table : List Object

@@ -1,20 +1,18 @@
 -- The rows that have a set, counted one after the other (`support-has`, `support-lacks`), also where the set is a premise and one
 -- attribute (`support-with`, `support-without`); they are at most as many as there are rows (`support-most`).
-use mathlib.Core.Path.{_≡_, refl, sym, ap, subst, _∙_}
-use mathlib.Core.Bool.{Bool, true, false, true≢false}
+use mathlib.Core.Path.{_≡_, refl}
+use mathlib.Core.Bool.{Bool, true, false}
 use mathlib.Core.Logic.{_⊎_, inl, inr}
 use mathlib.Core.List.{List, [], _∷_}
-use Prim.Native.Nat.{ℕ, zero, suc, _+_, _^_, _≤_, _<_}
+use Prim.Native.Nat.{ℕ, suc, _+_, _^_, _≤_}
 use native.Mathlib.Omega.{arith}
-use native.Mathlib.Nat.{mod-eq-of-lt, pow-suc}
 use lib.ListN.{length}
 use lib.Bits.{bitOr}
 use Rattle.attribute_set.specs.Sets.{digit, In, inside}
-use Rattle.attribute_set.specs.Sets.Laws.{lt-or-le, member-cases, member-lt, digit-lt, digit-none, inside-sub, sub-inside, outside-sub, not-inside, sub-trans, or-left, or-right, or-least}
-use Rattle.attribute_set.specs.Lectic.{raise}
-use Rattle.attribute_set.specs.Lectic.Laws.{raise-low, raise-at, single-at, single-only}
+use Rattle.attribute_set.specs.Sets.Laws.{member-cases, digit-lt, inside-sub, sub-inside, outside-sub, not-inside, sub-trans, or-left, or-right, or-least}
+use Rattle.attribute_set.specs.Lectic.Laws.{single-at, single-sub}
 use Rattle.context.specs.Objects.{Object}
-use Rattle.nearly_always.specs.Nearly.{having, support, passing}
+use Rattle.nearly_always.specs.Nearly.{having, support}
 
 -- ---- rows that have a set
 
@@ -44,7 +42,7 @@ support-most s (o ∷ os) = go (inside s (o .yes-marks)) refl (support-most s os
 
 module _ (premise j y : ℕ) where
   with-both : inside premise y ≡ true → In j y → inside (bitOr premise (2 ^ j)) y ≡ true
-  with-both e h = sub-inside (or-least (inside-sub premise y e) (record { at = λ i m. subst (λ (k : ℕ). In k y) (sym (single-only j i m)) h }))
+  with-both e h = sub-inside (or-least (inside-sub premise y e) (single-sub j y h))
 
   without-attribute : digit y j ≡ 0 → inside (bitOr premise (2 ^ j)) y ≡ false
   without-attribute e = not-inside (λ s. absurd (omega (arith, e, s .at j (or-right premise (2 ^ j) .at j (single-at j)))))

@@ -14,10 +14,12 @@ use lib.Dec.{eqb}
 use borrow.Author.Tests.{lt-ltb, ltb-true, eqb-true, eqb-false}
 use Rattle.attribute_set.specs.Sets.{In, inside}
 use Rattle.attribute_set.specs.Sets.Laws.{digit-without, digit-lt, member-cases, some-member, inside-sub, outside-sub, sub-inside, not-inside}
+use Rattle.attribute_set.specs.Passing.{passing}
+use Rattle.attribute_set.specs.Passing.Laws.{passing-in, passing-passes, passing-below}
 use Rattle.context.specs.Objects.{Object}
-use Rattle.nearly_always.specs.Nearly.{having, support, exceeds, passing, nearlyAlways}
+use Rattle.nearly_always.specs.Nearly.{having, support, exceeds, nearlyAlways}
 use Rattle.nearly_always.specs.Nearly.Listed.{Picks, no-rows, picked, left-out, Lists}
-use Rattle.nearly_always.specs.Nearly.Laws.{support-fewer, passing-in, passing-passes, passing-below}
+use Rattle.nearly_always.specs.Nearly.Laws.{support-fewer}
 
 -- ---- the list of rows
 

@@ -10,6 +10,7 @@ use lib.ListN.{length, length-append}
 use lib.Pow.{pow-lt, pow-mono}
 use Rattle.theory.specs.Implications.{Implication}
 use Rattle.attribute_set.specs.Sets.{inside, without}
+use Rattle.attribute_set.specs.Passing.{passing}
 use Rattle.attribute_set.specs.Lectic.{raise}
 use Rattle.attribute_set.specs.Lectic.Laws.{raise-lt, single-raise}
 use Rattle.implication.specs.Closure.{implication}
@@ -17,7 +18,7 @@ use Rattle.context.specs.Objects.{Object}
 use Rattle.text.specs.Text.{setText}
 use Rattle.output_lines.specs.Lines.{ruleText}
 use Rattle.output_lines.specs.Lines.Laws.{rule-length}
-use Rattle.nearly_always.specs.Nearly.{having, exceeds, passing, nearlyAlways}
+use Rattle.nearly_always.specs.Nearly.{having, exceeds, nearlyAlways}
 use Rattle.nearly_always.specs.Nearly.Cases.{table}
 use Rattle.nearly_lines.specs.Lines.{nearlyLine, nearlyLines}
 

@@ -16,6 +16,7 @@ use Rattle.session.specs.declared.Refusal.{Refusal}
 use Rattle.session.specs.Refusals.{refusal}
 use Rattle.session.specs.Limits.{badLength}
 use Rattle.attribute_set.specs.Sets.{inside, full, meets, without}
+use Rattle.attribute_set.specs.Passing.{passing}
 use Rattle.implication.specs.Pairs.{pairs}
 use Rattle.context.specs.Places.{lowest, anywhere}
 use Rattle.context.specs.Objects.{objectsOf, markedTwice}
@@ -26,7 +27,7 @@ use Rattle.session_checks.specs.Checked.{firstOf}
 use Rattle.row_checks.specs.Rows.{rowChecksWith}
 use Rattle.row_checks.specs.Rows.Laws.{rows-fit-with, right-rows-with}
 use Rattle.row_checks.specs.Rows.Places.{RightRow}
-use Rattle.nearly_always.specs.Nearly.{having, exceeds, passing, nearlyAlways, mostPercent, InRange}
+use Rattle.nearly_always.specs.Nearly.{having, exceeds, nearlyAlways, mostPercent, InRange}
 use Rattle.nearly_listing.specs.declared.Nearly.the-variants.{Listed, Refused}
 use Rattle.nearly_listing.specs.Listing.{percentCheck, listChecks, listedBy, listing}
 use Rattle.nearly_listing.specs.Listing.Places.{RightPlace}

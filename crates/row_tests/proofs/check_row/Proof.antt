@@ -59,7 +59,7 @@ ten : (c : tie.After-refuted-by)
     Standing s → c .refuted-by .result ≡ refutes (force (state s)) (offered s) (question (state s))
 ten c q =
     let s = start-nine (c .before) in
-    c .refuted-by .ensures (force (state s))
+    c .refuted-by .ensures
     ∙ ap (refutes (force (state s)) (offered s)) q
 
 returns-2 : tie.Need-returns-2

@@ -43,7 +43,7 @@ accepted c =
     let d = checked c in
     let a = start d .args in
     perform-accepted (state d) (call d) (sym (d .check-session .ensures) ∙ ap verdictOf (c .before .enum-told .given .1))
-    ∙ rw (← c .first-refuting .ensures (force (state d)), length-pairs object (a .session .rows) (a .rows .now))
+    ∙ rw (← c .first-refuting .ensures, length-pairs object (a .session .rows) (a .rows .now))
 
 returns : tie.Need-returns
 returns c = performs (refusing (c .before .before .before) _ (c .before .verdict .given .1)) refl refl

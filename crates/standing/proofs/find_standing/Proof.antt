@@ -53,7 +53,7 @@ passed c = c .before .before .before
 reached : (c : tie.After-reach-of) → c .reach-of .result ≡ reachOf (state (checked (passed c)))
 reached c =
     let s = state (checked (passed c)) in
-    c .reach-of .ensures (force s) ∙ ap (λ k. reach (force s) k (s .rows) (s .current)) (omega (arith, small (passed c)))
+    c .reach-of .ensures ∙ ap (λ k. reach (force s) k (s .rows) (s .current)) (omega (arith, small (passed c)))
 
 returns : tie.Need-returns
 returns c =

@@ -20,8 +20,10 @@ use Rattle.attribute_set.specs.Sets.Laws.{lt-or-le}
 use Rattle.attribute_set.specs.Lectic.{raise}
 use Rattle.attribute_set.specs.Lectic.Laws.{raise-lt}
 use Rattle.context.specs.Objects.{Object, object}
-use Rattle.nearly_always.specs.Nearly.{exceeds, passing, mostPercent}
-use Rattle.nearly_always.specs.Nearly.Laws.{support-has, support-lacks, support-none, support-with, support-without, support-most, passing-same}
+use Rattle.attribute_set.specs.Passing.{passing}
+use Rattle.attribute_set.specs.Passing.Laws.{passing-same}
+use Rattle.nearly_always.specs.Nearly.{exceeds, mostPercent}
+use Rattle.nearly_always.specs.Nearly.Laws.{support-has, support-lacks, support-none, support-with, support-without, support-most}
 use Rattle.nearly_always.specs.Nearly.Counting.{Zero, Small, Adds, Adding, Counted, CountedBut, CountsRow, exceedsBy, joinedBy}
 
 -- ---- the attributes of a row
