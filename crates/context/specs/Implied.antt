@@ -6,10 +6,10 @@ use mathlib.Core.Path.{_≡_}
 use mathlib.Core.Logic.{_↔_}
 use mathlib.Core.Bool.{true, false}
 use mathlib.Core.List.{List}
-use Prim.Native.Nat.{ℕ, _<_, _≤_}
+use Prim.Native.Nat.{ℕ, _^_, _<_, _≤_}
 use Rattle.theory.specs.Lists.{All}
 use Rattle.theory.specs.Implications.{Implication, Closed, Over}
-use Rattle.attribute_set.specs.Sets.{In, Sub, full}
+use Rattle.attribute_set.specs.Sets.{In, Sub, full, meets}
 use Rattle.attribute_set.specs.Words.{words}
 use Rattle.context.specs.Objects.{Object, wordAttributes, has, lacks, contradicts}
 use Rattle.context.specs.Tables.{Complete, Extends}
@@ -40,5 +40,6 @@ pub record Implied : Type 0 where
       → has rs o ≡ o .yes-marks
   pub complete-lacks : (n : ℕ) (rs : List (Implication ℕ)) (o : Object) → n ≤ wordAttributes → All (Over words (full n)) rs → Complete n o
       → contradicts rs o ≡ false → lacks rs o ≡ o .no-marks
-  -- a row that contradicts
+  -- a row that contradicts; to contradict is to have and to lack one attribute, so that 6 and 11 say the same of implied marks
+  pub contradicting : (rs : List (Implication ℕ)) (o : Object) → o .no-marks < 2 ^ wordAttributes → contradicts rs o ≡ meets (has rs o) (lacks rs o)
   pub all-lacked : (rs : List (Implication ℕ)) (o : Object) → contradicts rs o ≡ true → lacks rs o ≡ full wordAttributes

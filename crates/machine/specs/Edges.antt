@@ -9,7 +9,7 @@ use Rattle.implication.specs.Closure.{implication}
 use Rattle.context.specs.Objects.{Object, object}
 use Rattle.session.specs.Refusals.{refusal}
 use Rattle.machine.specs.Checks.{Lent, State}
-use Rattle.machine.specs.Machine.{step, accept, reject, follow, asked, taken, refused, moveTo, afterYes, perform, rejected, opened, opening, openingState}
+use Rattle.machine.specs.Machine.{step, accept, reject, follow, refute, asked, taken, refuted, refused, moveTo, agreeing, afterYes, perform, rejected, opened, opening, openingState}
 pub mod Proof
 
 -- lent lengths: row words, list words, background words
@@ -86,6 +86,10 @@ pub record Edges : Type 0 where
   pub ten-lacked : perform (wider (lent 6 2 2) (object 1 8 ∷ [])) (reject (object 3 8)) .answer ≡ taken
   -- under {1} → {3} the question is {0} → {2}; an offered row that contradicts lacks every attribute, and 11 refuses it
   pub eleven-not-ten : perform (under (implication 2 8) (object 1 8 ∷ [])) (reject (object 3 8)) .answer ≡ refused (refusal 11 0)
+  -- under {0,1} → {2} the row with 0 that lacks 2 lacks 1, and is the first that refutes {0} → {1}
+  pub refuted-lacked : perform (over (lent 6 2 2) (object 1 0 ∷ object 1 4 ∷ [])) (refute (implication 1 2)) .answer ≡ refuted 1
+  -- with {1} → {0} in the list a row with 1 has 0, and refutes {0} → {2} where it lacks 2
+  pub refuted-had : perform (agreeing (wider (lent 6 2 2) (object 2 4 ∷ [])) (implication 2 1)) (refute (implication 1 4)) .answer ≡ refuted 0
   -- a yes to {0} → {1, 2} contradicts the second row, which has 0 and lacks 3, and the third: 11 names the lowest
   pub eleven : perform (wider (lent 6 2 2) (object 2 0 ∷ object 1 8 ∷ object 1 8 ∷ [])) accept .answer ≡ refused (refusal 11 1)
   -- 11 is tested before 12

@@ -23,7 +23,8 @@ found : (c : tie.After-refuting-among)
 unfolding firstRefuting
 found c =
     let d = c .before in
-    c .refuting-among .ensures ∙ ap (λ k. lowest (test d) (objectsOf k (start d .args .rows .now))) (d .smaller .ensures)
+    let e : c .refuting-among .result ≡ lowest (test d) (objectsOf (d .smaller .result) (start d .args .rows .now)) = c .refuting-among .ensures in
+    e ∙ ap (λ k. lowest (test d) (objectsOf k (start d .args .rows .now))) (d .smaller .ensures)
 
 returns : tie.Need-returns
 unfolding firstRefuting

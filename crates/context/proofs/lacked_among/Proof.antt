@@ -10,7 +10,7 @@ use Rattle.attribute_set.specs.Sets.{digit, In, without}
 use Rattle.attribute_set.specs.Sets.Laws.{and-apart, member-lt, sub-le, without-sub}
 use Rattle.implication.specs.Closure.{inForce}
 use Rattle.context.specs.Objects.{Object, object, wordAttributes, has, lacks}
-use Rattle.context.specs.Objects.Laws.{has-closure, apart-contradicts}
+use Rattle.context.specs.Objects.Laws.{apart-contradicts}
 use Rattle.context.specs.Parts.{spared}
 use Rattle.context.specs.Parts.Laws.{lacked-start, lacked-turn, without-less}
 use Rattle.context.proofs.lacked_among.Statement.{statement}
@@ -41,12 +41,13 @@ abbrev row : tie.After-difference2 Inv-loop μ-loop → Object
 row c = let a = start c .args in object (a .yes) (a .no)
 
 loop-holds : tie.Need-loop-holds Inv-loop μ-loop
+unfolding has
 loop-holds c =
     let a = start c .args in
     let is = start c .pre .0 in
     let ok = apart-contradicts (force c) (row c) (and-apart _ _ (ap (λ (h : ℕ). bitAnd h (a .no)) (sym is) ∙ start c .pre .1)) in
     let e : c .difference2 .result ≡ without (without (a .among) (a .no)) (has (force c) (row c)) =
-    c .difference2 .ensures ∙ ap₂ without (c .before .difference .ensures) (is ∙ sym (has-closure (force c) (row c))) in (
+    c .difference2 .ensures ∙ ap₂ without (c .before .difference .ensures) is in (
       omega (arith, e, sub-le (without-sub (without (a .among) (a .no)) (has (force c) (row c))), sub-le (without-sub (a .among) (a .no))),
       ap (λ (x : ℕ). bitOr (bitAnd (a .among) (a .no)) (bitAnd x (lacks (force c) (row c)))) e
           ∙ lacked-start (force c) (row c) (a .among) ok (start c .fits .no .fits),
@@ -57,6 +58,16 @@ at : (c : tie.After-smallest-of Inv-loop μ-loop)
     → (i : ℕ) × In i (c .before .before .loop .left) × ((j : ℕ) → j < i → digit (c .before .before .loop .left) j ≡ 0) × (c .smallest-of .result ≡ 2 ^ i)
 at c = c .smallest-of .ensures .of-some (c .before .loop-test .taken)
 
+-- what is spared with it
+spared-after : (c : tie.After-spared-with Inv-loop μ-loop)
+    → let i = at (c .before) .0 in
+    let d = turn c .before .before in
+    c .spared-with .result ≡ spared (force d) (row d) (2 ^ i)
+spared-after c =
+    let d = turn c .before .before in
+    let e : c .spared-with .result ≡ spared (force d) (row d) (c .before .smallest-of .result) = c .spared-with .ensures in
+    e ∙ ap (spared (force d) (row d)) (at (c .before) .3)
+
 -- what is left after the turn
 left-after : (c : tie.After-difference4 Inv-loop μ-loop)
     → let s = told c in
@@ -65,9 +76,7 @@ left-after : (c : tie.After-difference4 Inv-loop μ-loop)
     c .difference4 .result ≡ without (turn s .before .loop .left) (bitOr (2 ^ i) (spared (force d) (row d) (2 ^ i)))
 left-after c =
     let s = told c in
-    let d = turn s .before .before in
-    let t = at (s .before) in
-    c .difference4 .ensures ∙ ap₂ (λ (x y : ℕ). without (turn s .before .loop .left) (bitOr x y)) (t .3) (s .spared-with .ensures ∙ ap (spared (force d) (row d)) (t .3))
+    c .difference4 .ensures ∙ ap₂ (λ (x y : ℕ). without (turn s .before .loop .left) (bitOr x y)) (at (s .before) .3) (spared-after s)
 
 loop-less : tie.Need-loop-less Inv-loop μ-loop
 loop-less c =
@@ -85,7 +94,7 @@ loop-again c =
     let i = t .0 in
     let below : i < wordAttributes = member-lt (l .left) i wordAttributes (omega (arith, l .inv .0, start d .fits .among .fits)) (t .1) in
     let e : c .before .difference3 .result ≡ without (2 ^ i) (spared (force d) (row d) (2 ^ i)) =
-    c .before .difference3 .ensures ∙ ap₂ without (t .3) (s .spared-with .ensures ∙ ap (spared (force d) (row d)) (t .3)) in (
+    c .before .difference3 .ensures ∙ ap₂ without (t .3) (spared-after s) in (
       omega (arith, l .inv .0, left-after c, without-less (l .left) i (spared (force d) (row d) (2 ^ i)) (t .1)),
       ap₂ (λ (x y : ℕ). bitOr (bitOr (l .lacked) x) (bitAnd y (lacks (force d) (row d)))) e (left-after c)
           ∙ lacked-turn (force d) (row d) (l .lacked) (l .left) i below (t .1) ∙ l .inv .1,

@@ -9,8 +9,8 @@ use Rattle.theory.specs.Implications.{Implication}
 use Rattle.attribute_set.specs.Sets.{Sub}
 use Rattle.attribute_set.specs.Sets.Laws.{and→sub, sub→and}
 use Rattle.implication.specs.Closure.{implication, inForce}
-use Rattle.context.specs.Objects.{Object, object, has, contradicts}
-use Rattle.context.specs.Objects.Laws.{has-closure, met-contradicts}
+use Rattle.context.specs.Objects.{Object, object, has, lacks}
+use Rattle.context.specs.Objects.Laws.{met-contradicts}
 use Rattle.context.specs.Parts.Laws.{part-left, part-taken, part-contradicting}
 use Rattle.context.proofs.refuted_part.Statement.{statement}
 use Rattle.context.proofs.refuted_part.Tie as tie
@@ -29,7 +29,8 @@ abbrev rule : tie.After-closure-of → Implication ℕ
 rule c = let a = start c .args in implication (a .premise) (a .conclusion)
 
 had : (c : tie.After-closure-of) → c .closure-of .result ≡ has (force c) (row c)
-had c = c .closure-of .ensures ∙ sym (has-closure (force c) (row c))
+unfolding has
+had c = c .closure-of .ensures
 
 -- the premise is had
 taken : (c : tie.Else1) → Sub (rule (c .before) .premise) (has (force (c .before)) (row (c .before)))
@@ -49,7 +50,8 @@ returns-2 c =
 returns-3 : tie.Need-returns-3
 returns-3 c =
     let d = c .before .before .before in
-    c .lacked-among .ensures ∙ sym (part-taken (force d) (row d) (rule d) (taken (c .before .before)))
+    let e : c .lacked-among .result ≡ bitAnd (rule d .conclusion) (lacks (force d) (row d)) = c .lacked-among .ensures in
+    e ∙ sym (part-taken (force d) (row d) (rule d) (taken (c .before .before)))
 
 pub refuted-part-spec : {M : Type 1} → statement M
 refuted-part-spec =

@@ -6,7 +6,7 @@ use Prim.Native.Nat.{ℕ, _≤_, _<_, _+_, _-_, _*_}
 use borrow.Author.Needs.{needs}
 use native.Mathlib.Omega.{arith}
 use native.Mathlib.Nat.{sub-zero}
-use lib.ListN.{drop}
+use lib.ListN.{drop, getD}
 use Rattle.implication.specs.Closure.{implication, inForce}
 use Rattle.context.specs.Places.{lowest}
 use Rattle.context.specs.Places.Search.{pair-found, pair-passed, pair-none}
@@ -34,6 +34,14 @@ at c = c .before .before .before .before
 abbrev start : tie.At-loop Inv-loop μ-loop → tie.Start Inv-loop μ-loop
 start c = let known = c .before .before in known .before .before
 
+-- the test of an object is what the call gives
+tested : (c : tie.After-refuted-by Inv-loop μ-loop)
+    → let i = at c .loop .place in
+    let a = start (at c) .args in
+    test (a .background .now) (a .list .now) (a .rules) (a .premise) (a .conclusion) (object (getD (a .rows .now) (i * 2) 0) (getD (a .rows .now) (i * 2 + 1) 0))
+    ≡ c .refuted-by .result
+tested c = sym (c .refuted-by .ensures)
+
 loop-holds : tie.Need-loop-holds Inv-loop μ-loop
 loop-holds c = (omega arith, rw sub-zero (omega arith))
 
@@ -43,7 +51,7 @@ returns c =
     let l = at (c .before) .loop in
     let a = start (at (c .before)) .args in
     let h : l .place < a .count = omega arith in
-    omega (arith, l .inv .1, pair-found (test (a .background .now) (a .list .now) (a .rules) (a .premise) (a .conclusion)) object (a .rows .now) (a .count) (l .place) h (sym (c .before .refuted-by .ensures) ∙ c .if1 .taken))
+    omega (arith, l .inv .1, pair-found (test (a .background .now) (a .list .now) (a .rules) (a .premise) (a .conclusion)) object (a .rows .now) (a .count) (l .place) h (tested (c .before) ∙ c .if1 .taken))
 
 loop-again : tie.Need-loop-again Inv-loop μ-loop
 loop-again c =
@@ -51,7 +59,7 @@ loop-again c =
     let a = start (at (c .before)) .args in
     let h : l .place < a .count = omega arith in (
       omega arith,
-      omega (arith, l .inv .1, pair-passed (test (a .background .now) (a .list .now) (a .rules) (a .premise) (a .conclusion)) object (a .rows .now) (a .count) (l .place) h (sym (c .before .refuted-by .ensures) ∙ c .if1 .left)),
+      omega (arith, l .inv .1, pair-passed (test (a .background .now) (a .list .now) (a .rules) (a .premise) (a .conclusion)) object (a .rows .now) (a .count) (l .place) h (tested (c .before) ∙ c .if1 .left)),
     )
 
 returns-2 : tie.Need-returns-2 Inv-loop μ-loop

@@ -10,13 +10,13 @@ use lib.Bits.{bitOr}
 use Rattle.theory.specs.Lists.{All}
 use Rattle.theory.specs.Implications.{Implication, Closed, Over}
 use Rattle.attribute_set.specs.Sets.{digit, In, Sub, Apart, full, meets}
-use Rattle.attribute_set.specs.Sets.Laws.{lt-or-le, member-cases, sub-refl, sub-trans, sub-antisym, apart-sub, or-left, or-right, or-least, or-inside, meets-apart, full-member, member-full, digit-or}
+use Rattle.attribute_set.specs.Sets.Laws.{lt-or-le, member-cases, sub-refl, sub-trans, sub-antisym, apart-sub, or-left, or-right, or-least, meets-some, some-meets, meets-apart, apart-meets, member-lt, full-member, member-full, digit-or}
 use Rattle.attribute_set.specs.Lectic.Laws.{single-at, single-only, single-sub}
 use Rattle.attribute_set.specs.Words.{words}
 use Rattle.implication.specs.Closure.{closure}
-use Rattle.implication.specs.Closure.Laws.{closure-least, closure-inside}
+use Rattle.implication.specs.Closure.Laws.{closure-least, closure-inside, full-closed}
 use Rattle.context.specs.Objects.{Object, wordAttributes, has, lacks, contradicts}
-use Rattle.context.specs.Objects.Laws.{has-closure, lacks-below, lacks-marked, meets-lacks, apart-lacks, contradicts-apart, contradicting-lacks}
+use Rattle.context.specs.Objects.Laws.{has-least, has-apart, lacks-below, lacks-marked, meets-lacks, apart-lacks, consistent-apart, contradicting-lacks}
 use Rattle.context.specs.Tables.{Complete, completed, Extends}
 use Rattle.context.specs.Tables.Laws.{completed-complete, completes-set, complete-strip}
 use Rattle.context.specs.Implied.{Completion, Consistent, Implied}
@@ -32,10 +32,9 @@ module _ (n : ℕ) (rs : List (Implication ℕ)) (o : Object) (k : Consistent n 
 
   had : (i : ℕ) → In i (has rs o) ↔ ((c : Object) → Completion n rs o c → In i (c .yes-marks))
   had i = (
-    λ h c m. closure-least rs (o .yes-marks) .least (c .yes-marks) (m .respects) (m .extends .yes-marks) .at i (subst (In i) (has-closure rs o) h),
-    λ f. let l = closure-least rs (o .yes-marks) in
-        subst (In i) (sym (has-closure rs o))
-        (f _ (from-closed _ (l .above) (closure-inside rs n (k .over) (k .yes-marks)) (contradicts-apart rs o (k .agrees)) (l .member))),
+    λ h c m. has-least rs o .least (c .yes-marks) (m .respects) (m .extends .yes-marks) .at i h,
+    λ f. f (completed n (has rs o)) (from-closed (has rs o) (has-least rs o .above)
+        (has-least rs o .least (full n) (full-closed rs n (k .over)) (k .yes-marks)) (has-apart rs o (k .agrees)) (has-least rs o .member)),
   )
 
   lacked : n ≤ wordAttributes → (i : ℕ) → i < n → In i (lacks rs o) ↔ ((c : Object) → Completion n rs o c → In i (c .yes-marks) → ⊥)
@@ -67,18 +66,15 @@ module _ (n : ℕ) (rs : List (Implication ℕ)) (o : Object) (over : All (Over 
   no-in = rw (← whole .whole) (or-right (o .yes-marks) (o .no-marks))
 
   -- nothing follows from the yes marks but themselves
-  closed : closure rs (o .yes-marks) ≡ o .yes-marks
-  closed = sub-antisym (complete-strip whole (closure-inside rs n over yes-in) (contradicts-apart rs o ok)) (closure-least rs (o .yes-marks) .above)
-
   pub complete-has : has rs o ≡ o .yes-marks
-  complete-has = has-closure rs o ∙ closed
+  complete-has = sub-antisym (complete-strip whole (has-least rs o .least (full n) (full-closed rs n over) yes-in) (has-apart rs o ok)) (has-least rs o .above)
 
   -- an attribute that is not marked no adds itself alone: one of the first n is marked yes, and of any other no implication speaks
   added : (i : ℕ) → (In i (o .no-marks) → ⊥) → Sub (closure rs (bitOr (o .yes-marks) (2 ^ i))) (bitOr (o .yes-marks) (2 ^ i))
   added i m = closure-least rs (bitOr (o .yes-marks) (2 ^ i)) .least _ respects (sub-refl _)
     where
       respects : Closed words rs (bitOr (o .yes-marks) (2 ^ i))
-      respects r k h = sub-trans (subst (λ s. Closed words rs s) closed (closure-least rs (o .yes-marks) .member) r k (premise (lt-or-le i n))) (or-left _ _)
+      respects r k h = sub-trans (subst (λ s. Closed words rs s) complete-has (has-least rs o .member) r k (premise (lt-or-le i n))) (or-left _ _)
         where
           premise : (i < n) ⊎ (n ≤ i) → Sub (r .premise) (o .yes-marks)
           premise (inl l) = sub-trans h (or-least (sub-refl _) (single-sub i _ (yes-marked l)))
@@ -105,6 +101,16 @@ module _ (n : ℕ) (rs : List (Implication ℕ)) (o : Object) (over : All (Over 
                 (member-cases (o .yes-marks) j);
           })) h
 
+contradicting : (rs : List (Implication ℕ)) (o : Object) → o .no-marks < 2 ^ wordAttributes → contradicts rs o ≡ meets (has rs o) (lacks rs o)
+unfolding has contradicts
+contradicting rs o w = go (contradicts rs o) refl
+  where
+    go : (b : Bool) → contradicts rs o ≡ b → b ≡ meets (has rs o) (lacks rs o)
+    go true e =
+        let m = meets-some _ _ e in
+        sym (some-meets _ _ (m .0) (m .1) (lacks-marked rs o (m .0) (member-lt (o .no-marks) (m .0) wordAttributes w (m .2)) (m .2)))
+    go false e = sym (apart-meets (apart-sub (closure-least rs _ .above) (sub-refl _) (consistent-apart rs o e (sub-refl (has rs o)))))
+
 all-lacked : (rs : List (Implication ℕ)) (o : Object) → contradicts rs o ≡ true → lacks rs o ≡ full wordAttributes
 all-lacked rs o e = sub-antisym (record { at = λ i h. member-full wordAttributes i (lacks-below rs o i h) })
     (record { at = λ i h. contradicting-lacks rs o e i (full-member wordAttributes i h) })
@@ -115,5 +121,6 @@ implied = record {
   lacked = λ n rs o most k. lacked n rs o k most;
   complete-has = complete-has;
   complete-lacks = λ n rs o most over whole ok. complete-lacks n rs o over whole ok most;
+  contradicting = contradicting;
   all-lacked = all-lacked;
 }

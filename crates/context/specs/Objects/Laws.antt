@@ -9,12 +9,13 @@ use lib.ListN.{length}
 use lib.Bits.{bitAnd, bitOr}
 use borrow.Author.Tests.{ne-eqb}
 use Rattle.theory.specs.Lists.{All}
-use Rattle.theory.specs.Implications.{Implication}
+use Rattle.theory.specs.Implications.{Implication, Closed, Least}
 use Rattle.attribute_set.specs.Sets.{digit, In, Sub, Apart, meets}
 use Rattle.attribute_set.specs.Sets.Laws.{digit-none, sub-inside, not-inside, sub-dec, meets-some, some-meets, meets-apart, apart-meets, apart-sub, sub-refl, sub-trans, sub-antisym, none-sub, or-left, or-right, or-least}
 use Rattle.attribute_set.specs.Lectic.Laws.{single-at, single-sub}
 use Rattle.attribute_set.specs.Passing.{passing}
 use Rattle.attribute_set.specs.Passing.Laws.{passing-in, passing-passes, passing-below}
+use Rattle.attribute_set.specs.Words.{words}
 use Rattle.implication.specs.Closure.{closure}
 use Rattle.implication.specs.Closure.Laws.{closure-least, closure-mono, closure-more, closure-between}
 use Rattle.implication.specs.Pairs.Laws.{length-pairs, pairs-whole}
@@ -25,15 +26,16 @@ use Rattle.context.specs.Objects.{Object, object, objectsOf, wordAttribu
 -- ---- what an object has and lacks
 
 module _ (rs : List (Implication ℕ)) (o : Object) where
-  -- the closure of the yes marks, and of them with one attribute more
-  pub has-closure : has rs o ≡ closure rs (o .yes-marks)
+  -- it has its yes marks and what follows from them, and nothing else
+  pub has-least : Least words (Closed words rs) (o .yes-marks) (has rs o)
   unfolding has
-  has-closure = refl
+  has-least = closure-least rs (o .yes-marks)
 
+  -- the closure with one attribute more
   abbrev pub withAttribute : ℕ → ℕ
   withAttribute i = closure rs (bitOr (o .yes-marks) (2 ^ i))
 
-  -- an attribute of a word is lacked just if the second meets the no marks
+  -- an attribute of a word is lacked just if that meets the no marks
   pub lacks-meets : (i : ℕ) → In i (lacks rs o) → meets (withAttribute i) (o .no-marks) ≡ true
   unfolding lacks excludes
   lacks-meets i h = passing-passes (excludes rs o) wordAttributes i h
@@ -111,33 +113,34 @@ module _ (o : Object) (r : Implication ℕ) where
 -- ---- refutation
 
 module _ (rs : List (Implication ℕ)) (o : Object) where
-  -- the object with the marks that are implied
+  -- the object with the marks that are implied: it refutes by its written marks what o refutes
   abbrev pub implied : Object
   implied = object (has rs o) (lacks rs o)
 
   module _ (r : Implication ℕ) where
-    -- o refutes r just if the object with the implied marks does by its written ones
-    pub refutes-implied : refutes rs o r ≡ refutesWritten implied r
-    unfolding refutes refutesWritten
-    refutes-implied = refl
-
     pub refutes-left : (Sub (r .premise) (has rs o) → ⊥) → refutes rs o r ≡ false
-    refutes-left n = refutes-implied ∙ written-left implied r n
+    unfolding refutes refutesWritten
+    refutes-left n = written-left implied r n
 
     pub refutes-has : refutes rs o r ≡ true → Sub (r .premise) (has rs o)
-    refutes-has e = written-has implied r (sym refutes-implied ∙ e)
+    unfolding refutes refutesWritten
+    refutes-has e = written-has implied r e
 
     pub refutes-lacks : refutes rs o r ≡ true → (i : ℕ) × In i (r .conclusion) × In i (lacks rs o)
-    refutes-lacks e = written-lacks implied r (sym refutes-implied ∙ e)
+    unfolding refutes refutesWritten
+    refutes-lacks e = written-lacks implied r e
 
     pub not-refutes : refutes rs o r ≡ false → Sub (r .premise) (has rs o) → Apart (r .conclusion) (lacks rs o)
-    not-refutes e h = not-written implied r (sym refutes-implied ∙ e) h
+    unfolding refutes refutesWritten
+    not-refutes e h = not-written implied r e h
 
     pub refutes-taken : Sub (r .premise) (has rs o) → refutes rs o r ≡ meets (r .conclusion) (lacks rs o)
-    refutes-taken h = refutes-implied ∙ written-taken implied r h
+    unfolding refutes refutesWritten
+    refutes-taken h = written-taken implied r h
 
     pub spares : (Sub (r .premise) (has rs o) → Apart (r .conclusion) (lacks rs o)) → refutes rs o r ≡ false
-    spares k = refutes-implied ∙ written-spares implied r k
+    unfolding refutes refutesWritten
+    spares k = written-spares implied r k
 
 -- ---- the first object that refutes
 
@@ -184,6 +187,10 @@ contradicts-apart rs o e = meets-apart _ _ e
 pub apart-contradicts : (rs : List (Implication ℕ)) (o : Object) → Apart (closure rs (o .yes-marks)) (o .no-marks) → contradicts rs o ≡ false
 unfolding contradicts
 apart-contradicts rs o h = apart-meets h
+
+pub has-apart : (rs : List (Implication ℕ)) (o : Object) → contradicts rs o ≡ false → Apart (has rs o) (o .no-marks)
+unfolding has
+has-apart rs o e = contradicts-apart rs o e
 
 pub met-contradicts : (rs : List (Implication ℕ)) (o : Object) → (bitAnd (closure rs (o .yes-marks)) (o .no-marks) ≡ 0 → ⊥) → contradicts rs o ≡ true
 unfolding contradicts meets

@@ -18,7 +18,7 @@ use Rattle.implication.specs.Closure.{closure}
 use Rattle.implication.specs.Closure.Laws.{closure-least}
 use Rattle.implication.specs.Until.{CloseUntil}
 use Rattle.context.specs.Objects.{Object, wordAttributes, has, lacks, refutes, contradicts}
-use Rattle.context.specs.Objects.Laws.{has-closure, lacks-marked, meets-lacks, spared-set, consistent-apart, refutes-taken, refutes-left}
+use Rattle.context.specs.Objects.Laws.{lacks-marked, meets-lacks, spared-set, consistent-apart, refutes-taken, refutes-left}
 use Rattle.context.specs.Implied.Theorem.{implied}
 use Rattle.context.specs.Parts.{spared, refutedPart}
 

@@ -17,7 +17,7 @@ use Rattle.attribute_set.specs.Words.{words}
 use Rattle.implication.specs.Closure.{closure, follows}
 use Rattle.implication.specs.Closure.Laws.{closure-least, closure-inside, follows-sub, sub-follows}
 use Rattle.context.specs.Objects.{Object, lacks, refutes, refutesWritten, contradicts}
-use Rattle.context.specs.Objects.Laws.{has-closure, apart-lacks, refutes-has, refutes-lacks, not-written, written-spares, contradicts-apart, apart-contradicts}
+use Rattle.context.specs.Objects.Laws.{has-least, apart-lacks, refutes-has, refutes-lacks, not-written, written-spares, contradicts-apart, apart-contradicts}
 use Rattle.context.specs.Tables.{Complete, Table, completed, Extends, AgreesObject, AgreesImplication}
 
 pub swap : {x y : ℕ} → Apart x y → Apart y x
@@ -80,7 +80,7 @@ pub refutes-extended : (n : ℕ) (rs : List (Implication ℕ)) {o c : Object} (r
 refutes-extended n rs {o} {c} r over whole closed h e = go (refutesWritten c r) refl
   where
     has-premise : Sub (r .premise) (c .yes-marks)
-    has-premise = sub-trans (refutes-has rs o r e) (rw has-closure (closure-least rs (o .yes-marks) .least (c .yes-marks) closed (h .yes-marks)))
+    has-premise = sub-trans (refutes-has rs o r e) (has-least rs o .least (c .yes-marks) closed (h .yes-marks))
 
     lacked : (i : ℕ) × In i (r .conclusion) × In i (lacks rs o)
     lacked = refutes-lacks rs o r e

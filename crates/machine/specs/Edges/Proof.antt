@@ -5,15 +5,15 @@ use Rattle.attribute_set.specs.Passing.{passing}
 use Rattle.implication.specs.Closure.{fire, pass, close, closure}
 use Rattle.next_set.specs.Next.{fits, nextBelow}
 use Rattle.context.specs.Places.{lowest, anywhere}
-use Rattle.context.specs.Objects.{has, excludes, lacks, refutes, markedTwice, contradicts}
+use Rattle.context.specs.Objects.{has, excludes, lacks, refutes, firstRefuting, markedTwice, contradicts}
 use Rattle.reach.specs.Reach.{cut, narrow, reach}
 use Rattle.session.specs.Limits.{badLength}
 use Rattle.machine.specs.Checks.{standing, questionStands, firstFailing, strange, outsideM, sessionChecks, yesChecks, noChecks}
-use Rattle.machine.specs.Machine.{performStep, performed, checksOf, perform, opening}
+use Rattle.machine.specs.Machine.{performStep, refutedAt, performed, checksOf, perform, opening}
 use Rattle.machine.specs.Edges.{Edges}
 
 pub edges : Edges
-unfolding full without inside meets fire pass close closure fits nextBelow lowest anywhere passing has excludes lacks refutes markedTwice contradicts cut narrow reach standing questionStands firstFailing badLength strange outsideM sessionChecks yesChecks noChecks performStep performed checksOf perform opening
+unfolding full without inside meets fire pass close closure fits nextBelow lowest anywhere passing has excludes lacks refutes firstRefuting markedTwice contradicts cut narrow reach standing questionStands firstFailing badLength strange outsideM sessionChecks yesChecks noChecks performStep refutedAt performed checksOf perform opening
 edges = record {
   most-attributes = refl;
   too-many-attributes = refl;
@@ -49,6 +49,8 @@ edges = record {
   ten-had = refl;
   ten-lacked = refl;
   eleven-not-ten = refl;
+  refuted-lacked = refl;
+  refuted-had = refl;
   eleven = refl;
   eleven-before-twelve = refl;
   no-contradicts = refl;

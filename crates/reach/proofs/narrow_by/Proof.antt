@@ -5,12 +5,12 @@ use Prim.Native.Nat.{ℕ, _≤_, _<_, _+_, _-_, _*_}
 use borrow.Author.Needs.{needs}
 use native.Mathlib.Omega.{arith}
 use native.Mathlib.Nat.{sub-zero}
-use lib.ListN.{drop}
+use lib.ListN.{drop, getD}
 use Rattle.theory.specs.Implications.{Implication}
 use Rattle.implication.specs.Closure.{inForce}
 use Rattle.implication.specs.Pairs.Laws.{pairs-at, pairs-end}
 use Rattle.context.specs.Objects.{object, objectsOf}
-use Rattle.reach.specs.Reach.{narrow}
+use Rattle.reach.specs.Reach.{cut, narrow}
 use Rattle.reach.proofs.narrow_by.Statement.{statement}
 use Rattle.reach.proofs.narrow_by.Tie as tie
 
@@ -41,9 +41,11 @@ unfolding narrow
 loop-again c =
     let l = at c .loop in
     let a = start (at c) .args in
-    let h : l .i < a .count = omega arith in (
+    let h : l .i < a .count = omega arith in
+    let o = object (getD (a .rows .now) (l .i * 2) 0) (getD (a .rows .now) (l .i * 2 + 1) 0) in
+    let e : c .cut-by .result ≡ cut (force (at c)) (a .set) o (l .left) = c .cut-by .ensures in (
       omega arith,
-      ap (narrow (force (at c)) (a .set) (objectsOf (a .count - (l .i + 1)) (drop ((l .i + 1) * 2) (a .rows .now)))) (c .cut-by .ensures)
+      ap (narrow (force (at c)) (a .set) (objectsOf (a .count - (l .i + 1)) (drop ((l .i + 1) * 2) (a .rows .now)))) e
           ∙ ap (λ os. narrow (force (at c)) (a .set) os (l .left)) (sym (pairs-at object (a .rows .now) (a .count) (l .i) h)) ∙ l .inv .1,
     )
 

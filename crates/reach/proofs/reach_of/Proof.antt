@@ -1,5 +1,5 @@
 -- M cut by the whole objects of the slice; what is counted past them cuts nothing.
-use mathlib.Core.Path.{sym, ap₂, _∙_}
+use mathlib.Core.Path.{_≡_, sym, ap₂, _∙_}
 use Prim.Native.Nat.{min}
 use Rattle.implication.specs.Closure.{inForce}
 use Rattle.context.specs.Objects.{objectsOf}
@@ -17,7 +17,9 @@ unfolding reach
 returns c =
     let a = start (c .before .before) .args in
     let rs = inForce (a .background .now) (a .list .now) (a .rules) in
-    c .narrow-by .ensures
+    let e : c .narrow-by .result ≡ narrow rs (a .set) (objectsOf (c .before .before .smaller .result) (a .rows .now)) (c .before .full-set .result) =
+    c .narrow-by .ensures in
+    e
     ∙ ap₂ (λ k x. narrow rs (a .set) (objectsOf k (a .rows .now)) x) (c .before .before .smaller .ensures) (c .before .full-set .ensures)
     ∙ sym (reach-whole rs (min (a .n) 64) (a .count) (a .rows .now) (a .set))
 

@@ -2,7 +2,7 @@
 use mathlib.Core.Path.{_≡_, sym, ap, _∙_}
 use mathlib.Core.List.{[]}
 use mathlib.Core.Option.{Option, none}
-use Prim.Native.Nat.{_≤_}
+use Prim.Native.Nat.{_≤_, min}
 use native.Mathlib.Omega.{arith}
 use borrow.Author.Needs.{needs}
 use Rattle.session.specs.declared.Refusal.{Refusal}
@@ -53,7 +53,8 @@ passed c = c .before .before .before
 reached : (c : tie.After-reach-of) → c .reach-of .result ≡ reachOf (state (checked (passed c)))
 reached c =
     let s = state (checked (passed c)) in
-    c .reach-of .ensures ∙ ap (λ k. reach (force s) k (s .rows) (s .current)) (omega (arith, small (passed c)))
+    let e : c .reach-of .result ≡ reach (force s) (min (s .n) 64) (s .rows) (s .current) = c .reach-of .ensures in
+    e ∙ ap (λ k. reach (force s) k (s .rows) (s .current)) (omega (arith, small (passed c)))
 
 returns : tie.Need-returns
 returns c =
