@@ -59,7 +59,7 @@ module _ (table : List Object) (s : State) (changes : ℕ) (a : Along table s ch
     list-decides r i = (
       λ e. follows-tables (s .n) (force s) (a .reached .over) r i .0 (rw in-list e) table (a .complete) (agrees-force table s changes a),
       λ h. subst (λ l. follows l r ≡ true) in-list
-          (decided s (a .reached) is-finished r i .1 (λ o m. unrefuted-by table (force s) o r (own-row table o (a .rows o m)) h)),
+          (decided s (a .reached) is-finished r i .1 (λ o m. unrefuted-by (s .n) table (force s) (a .complete) (a .reached .over) (agrees-force table s changes a) o r i (own-row table o (a .rows o m)) h)),
     )
 
     list-shortest : (l : List (Implication ℕ)) → All (OverM (s .n)) l → Decides (s .n) table l → length (s .list) ≤ length l
@@ -161,8 +161,8 @@ module _ (table : List Object) (s : State) (changes : ℕ) (a : Along table s ch
   last-ends k =
       step-cases s (λ t. Ends (s .n) table (s .lent) line)
       (λ e. subst (λ t. Ends (s .n) table (s .lent) t) (same-line _ _ (sym (core-last table s changes e) ∙ k)) (inl (concluded table s changes a e)))
-      (λ ne e. absurd (not-last _ _ _ _ (sym (core-moved table s changes ne e) ∙ k)))
-      (λ ne d. inr (reply-refused (sym (core-asked table s changes ne d) ∙ k)))
+      (λ ne e. absurd (not-last _ _ _ _ (sym (core-moved table s changes a ne e) ∙ k)))
+      (λ ne d. inr (reply-refused (sym (core-asked table s changes a ne d) ∙ k)))
 
 -- ---- all beats
 
