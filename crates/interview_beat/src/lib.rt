@@ -38,7 +38,7 @@ pub fn advance(
             last: true,
         };
     }
-    let reach = reach::reach_of(n, rows, interview.rows, current);
+    let reach = written_marks::reach_of(n, rows, interview.rows, current);
     if reach != current {
         let conclusion = attribute_set::difference(reach, current);
         return table_replies::reply(table, objects, rows, list, interview, conclusion, out, at);

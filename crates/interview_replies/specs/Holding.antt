@@ -3,12 +3,11 @@
 use mathlib.Core.Path.{_≡_}
 use mathlib.Core.Bool.{Bool, true, false}
 use mathlib.Core.List.{List, []}
-use Prim.Native.Nat.{ℕ, _≤_}
+use Prim.Native.Nat.{ℕ}
 use denote.Ref.{now}
 use Rattle.implication.specs.Closure.{implication}
 use Rattle.context.specs.Objects.{Object}
-use Rattle.session.specs.Limits.{mostAttributes}
-use Rattle.machine.specs.Checks.{State, question}
+use Rattle.machine.specs.Checks.{State}
 use Rattle.machine.specs.Calls.{stateOf, Words}
 use Rattle.text.specs.Page.{Page, page, text, Buffer}
 use Rattle.transcript.specs.Output.{Beat, more, last}
@@ -26,14 +25,6 @@ holding i rows list = stateOf (record { n = i .n; rows = i .rows; rules = i .rul
 -- the state that a beat is given
 abbrev pub held : Interview → Words → Words → State
 held i rows list = holding i (now (rows .entry)) (now (list .entry))
-
--- the conclusion makes the state's question with the current set
-pub record Asks (i : Interview) (conclusion : ℕ) (rows list : List ℕ) : Type 0 where
-  pub attributes : i .n ≤ mostAttributes
-  pub is-question : implication (i .current) conclusion ≡ question (holding i rows list)
-
-abbrev pub Asking : Interview → ℕ → Words → Words → Type 0
-Asking i conclusion rows list = Asks i conclusion (now (rows .entry)) (now (list .entry))
 
 -- ---- what a beat leaves
 

@@ -1,5 +1,7 @@
 // Yes to the question of an interview (01: the program), below the checks: the Q line, and the rule in its place.
-ghost use Rattle.interview_replies.specs.Holding.{Asking, Beats, yesBeat};
+ghost use Prim.Native.Nat.{_≤_};
+ghost use Rattle.session.specs.Limits.{mostAttributes};
+ghost use Rattle.interview_replies.specs.Holding.{Beats, yesBeat};
 use interview_replies::Beaten;
 use interview_replies::Interview;
 
@@ -12,7 +14,7 @@ pub fn say_yes(
     out: &mut [u8],
     at: usize,
 ) -> Beaten
-    ensures { λ r. ⌜ (Asking interview conclusion rows list → Beats (yesBeat interview rows list conclusion) rows list out at r) ⌝ }
+    ensures { λ r. ⌜ (interview .n ≤ mostAttributes → Beats (yesBeat interview rows list conclusion) rows list out at r) ⌝ }
 {
     let n = interview.n;
     let rules = interview.rules;

@@ -11,7 +11,7 @@ use Rattle.text.specs.Page.{Buffer}
 use Rattle.transcript.specs.Core.{coreReply}
 use Rattle.interview_replies.specs.declared.Interview.{Interview}
 use Rattle.interview_replies.specs.declared.Beaten.{Beaten}
-use Rattle.interview_replies.specs.Holding.{held, Asking, Beats}
+use Rattle.interview_replies.specs.Holding.{held, Beats}
 pub mod Laws
 
 -- the rows of the table that a beat is lent
@@ -32,5 +32,5 @@ Fitting i objects table rows list = Fits i objects (now (table .entry)) (now (ro
 -- the call is the table's reply to the question with this conclusion
 abbrev pub Replies : ℕ → Words → Interview → Words → Words → ℕ → Buffer → ℕ → Beaten → Type 0
 Replies objects table i rows list conclusion out at r =
-    Fitting i objects table rows list → Asking i conclusion rows list
+    Fitting i objects table rows list
     → Beats (coreReply (tabled objects table) (held i rows list) (i .changes) (implication (i .current) conclusion)) rows list out at r

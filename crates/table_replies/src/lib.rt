@@ -16,7 +16,7 @@ pub fn reply(
 ) -> Beaten
     ensures { λ r. ⌜ Replies objects table interview rows list conclusion out at r ⌝ }
 {
-    let place = context::first_refuting(table, objects, interview.current, conclusion);
+    let place = written_marks::first_refuting(table, objects, interview.current, conclusion);
     let whole = implication::smaller(objects, table.len() / 2);
     if place < whole {
         let yes = table[place * 2];

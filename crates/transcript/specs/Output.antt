@@ -7,7 +7,7 @@ use Prim.Native.Nat.{ℕ, zero, suc, _+_, _*_, _/_, _^_}
 use lib.ListN.{length, getD}
 use lib.Dec.{ltb}
 use Rattle.theory.specs.Implications.{Implication}
-use Rattle.context.specs.Objects.{Object, object, firstRefuting}
+use Rattle.context.specs.Objects.{Object, object, firstWritten}
 use Rattle.session.specs.Limits.{mostObjects, mostImplications}
 use Rattle.machine.specs.Checks.{Lent, State}
 use Rattle.machine.specs.Machine.{step, accept, reject, Answer, finished, moved, asked, taken, followed, refuted, unrefuted, refused, perform, opened, rejected, Opening, opening}
@@ -38,12 +38,12 @@ replied line changes (refuted p) s = last line
 replied line changes unrefuted s = last line
 replied line changes (refused r) s = last (line ++ refusalLine r)
 
--- the reply to a question: no with the first row of the table that refutes it, which is counted from 1, else yes
+-- the reply to a question: no with the first row of the table that refutes it by its own marks, which is counted from 1, else yes
 unfoldable pub answered : List Object → State → ℕ → Implication ℕ → Beat
 answered table s changes q =
-    elim (ltb (firstRefuting [] table q) (length table)) [
+    elim (ltb (firstWritten table q) (length table)) [
       | true ↦
-          let row = firstRefuting [] table q in
+          let row = firstWritten table q in
           let t = perform s (reject (getD table row (object 0 0))) in
           replied (noLine (s .n) q (row + 1)) changes (t .answer) (t .after)
       | false ↦ let t = perform s accept in replied (yesLine (s .n) q) (suc changes) (t .answer) (t .after)

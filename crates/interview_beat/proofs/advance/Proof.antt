@@ -1,9 +1,7 @@
 -- The code takes the cases of the beat in their order.
-use Rattle.machine.specs.Checks.{force}
 use Rattle.text.specs.Page.{page}
-use Rattle.interview_replies.specs.Holding.{holding}
 use Rattle.interview_replies.specs.Holding.Laws.{leaves-same}
-use Rattle.interview_beat.specs.Beat.Laws.{beat-end, beat-asks, beat-reply, beat-move}
+use Rattle.interview_beat.specs.Beat.Laws.{beat-end, beat-reply, beat-move}
 use borrow.Author.Needs.{needs}
 use Rattle.interview_beat.proofs.advance.Statement.{statement}
 use Rattle.interview_beat.proofs.advance.Tie as tie
@@ -44,15 +42,10 @@ returns-2 c =
     let full = below reach .before in
     let a = start full .args in
     let i = a .interview in
-    let s = holding i (a .rows .now) (a .list .now) in
-    let conclusion = q .difference .result in
-    λ fits.
-    let asks = beat-asks i (a .rows .now) (a .list .now) (a .objects) (a .table .now) fits (full .full-set .result) (full .full-set .ensures)
-    (reach .reach-of .result) (below reach .if1 .left) (reach .reach-of .ensures (force s)) conclusion (q .difference .ensures) in
-    leaves-same
+    λ fits. leaves-same
     (beat-reply i (a .rows .now) (a .list .now) (a .objects) (a .table .now) fits (full .full-set .result) (full .full-set .ensures)
-    (reach .reach-of .result) (below reach .if1 .left) (reach .reach-of .ensures (force s)) conclusion asks (q .before .if2 .taken))
-    (replied c .reply .ensures fits asks)
+    (reach .reach-of .result) (below reach .if1 .left) (reach .reach-of .ensures) (q .difference .result) (q .difference .ensures) (q .before .if2 .taken))
+    (replied c .reply .ensures fits)
 
 returns-3 : tie.Need-returns-3
 returns-3 c =
@@ -61,9 +54,8 @@ returns-3 c =
     let full = below reach .before in
     let a = start full .args in
     let i = a .interview in
-    let s = holding i (a .rows .now) (a .list .now) in
     λ fits. beat-move i (a .rows .now) (a .list .now) (a .objects) (a .table .now) fits (full .full-set .result) (full .full-set .ensures)
-    (reach .reach-of .result) (below reach .if1 .left) (reach .reach-of .ensures (force s)) (a .at) (page (a .out .now) (a .at))
+    (reach .reach-of .result) (below reach .if1 .left) (reach .reach-of .ensures) (a .at) (page (a .out .now) (a .at))
     (c .before .next-of .result) (c .count-change .result) (d .if2 .left) (c .before .next-of .ensures) (c .count-change .ensures)
 
 pub advance-spec : {M : Type 1} → statement M

@@ -2,25 +2,26 @@
 use mathlib.Core.Path.{_≡_, refl, sym, ap, _∙_}
 use mathlib.Core.Bool.{true, false}
 use mathlib.Core.List.{List, [], _++_}
-use Prim.Native.Nat.{ℕ, _+_, _*_, _/_, _<_, _≤_, min}
+use Prim.Native.Nat.{ℕ, _+_, _*_, _/_, _≤_, min}
 use native.Mathlib.Omega.{arith}
-use lib.ListN.{length, getD}
-use borrow.Author.Tests.{eq-eqb, ne-eqb, lt-ltb, le-ltb}
+use lib.ListN.{length}
+use borrow.Author.Tests.{eq-eqb, ne-eqb}
 use Rattle.attribute_set.specs.Sets.{full, without}
-use Rattle.implication.specs.Pairs.Laws.{length-pairs, pairs-get}
+use Rattle.implication.specs.Pairs.Laws.{length-pairs}
 use Rattle.implication.specs.Closure.{implication, implicationsOf}
 use Rattle.next_set.specs.Next.{next}
-use Rattle.context.specs.Objects.{object, objectsOf, firstRefuting}
-use Rattle.reach.specs.Reach.{reach}
-use Rattle.machine.specs.Checks.{force, reachOf}
+use Rattle.context.specs.Objects.{object, objectsOf}
+use Rattle.written_marks.specs.Written.{reachWritten}
+use Rattle.machine.specs.Checks.{force}
 use Rattle.machine.specs.Machine.{moveTo}
+use Rattle.written_machine.specs.Reading.{writtenReach, writtenQuestion}
 use Rattle.text.specs.Page.{Page, text}
 use Rattle.output_lines.specs.Lines.{wholeRules, listLines}
 use Rattle.closing_lines.specs.Closing.{endLine}
 use Rattle.transcript.specs.Output.{last, closing}
-use Rattle.transcript.specs.Core.{counted, coreNo, coreYes, coreReply, coreBeat}
+use Rattle.transcript.specs.Core.{counted, coreReply, coreBeat}
 use Rattle.interview_replies.specs.declared.Interview.{Interview}
-use Rattle.interview_replies.specs.Holding.{holding, Asks, Leaves}
+use Rattle.interview_replies.specs.Holding.{holding, Leaves}
 use Rattle.interview_replies.specs.Holding.Laws.{leaves-last, leaves-more}
 use Rattle.table_replies.specs.Reply.{Fits}
 
@@ -50,27 +51,24 @@ module _ (i : Interview) (rows list : List ℕ) where
     unfolding coreBeat
     beat-end end {p} {p′} e t = leaves-last _ _ i end rows list p p′ t (rw (coreBeat, eq-eqb _ _ (e ∙ whole)))
 
-    module _ (r : ℕ) (open′ : i .current ≡ m → ⊥) (found : r ≡ reach (force (holding i rows list)) (min (i .n) 64) (objectsOf (i .rows) rows) (i .current)) where
+    module _ (r : ℕ) (open′ : i .current ≡ m → ⊥) (found : r ≡ reachWritten (min (i .n) 64) (objectsOf (i .rows) rows) (i .current)) where
       below : i .current ≡ full (i .n) → ⊥
       below e = open′ (e ∙ sym whole)
 
-      reached : r ≡ reachOf (holding i rows list)
-      reached = found ∙ ap (λ k. reach (force (holding i rows list)) k (objectsOf (i .rows) rows) (i .current)) limit
+      reached : r ≡ writtenReach (holding i rows list)
+      reached = found ∙ ap (λ k. reachWritten k (objectsOf (i .rows) rows) (i .current)) limit
 
-      -- the question that stands
-      pub beat-asks : (conclusion : ℕ) → conclusion ≡ without r (i .current) → Asks i conclusion rows list
-      beat-asks conclusion e = record {
-        attributes = fits .attributes;
-        is-question = ap (implication (i .current)) (e ∙ ap (λ x. without x (i .current)) reached);
-      }
-
-      pub beat-reply : (conclusion : ℕ) → Asks i conclusion rows list → (r ≡ i .current → ⊥)
+      -- the table's reply to the question from the current set to the rest of its reach
+      pub beat-reply : (conclusion : ℕ) → conclusion ≡ without r (i .current) → (r ≡ i .current → ⊥)
           → coreBeat (objectsOf objects table) (holding i rows list) (i .changes)
           ≡ coreReply (objectsOf objects table) (holding i rows list) (i .changes) (implication (i .current) conclusion)
       unfolding coreBeat
-      beat-reply conclusion q d =
+      beat-reply conclusion rest d =
           rw (coreBeat, ne-eqb _ _ below, ne-eqb _ _ (λ e. d (reached ∙ e)))
-          (ap (coreReply (objectsOf objects table) (holding i rows list) (i .changes)) (sym (q .is-question)))
+          (ap (coreReply (objectsOf objects table) (holding i rows list) (i .changes)) (sym question))
+        where
+          question : implication (i .current) conclusion ≡ writtenQuestion (holding i rows list)
+          question = ap (implication (i .current)) (rest ∙ ap (λ x. without x (i .current)) reached)
 
       pub beat-move : (at : ℕ) (p : Page) (current changes : ℕ) → r ≡ i .current
           → current ≡ next (force (holding i rows list)) (min (i .n) 64) (i .current) → changes ≡ counted (i .changes)

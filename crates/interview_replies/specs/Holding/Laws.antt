@@ -10,8 +10,9 @@ use Rattle.implication.specs.Pairs.Laws.{length-pairs}
 use Rattle.implication.specs.Closure.{implication, implicationsOf, inForce}
 use Rattle.next_set.specs.Next.{next}
 use Rattle.context.specs.Objects.{object, objectsOf}
+use Rattle.session.specs.Limits.{mostAttributes}
 use Rattle.machine.specs.Checks.{State}
-use Rattle.machine.specs.Machine.{afterYes, afterNo}
+use Rattle.machine.specs.Machine.{agreeing, afterNo}
 use Rattle.machine.specs.Calls.{stateOf}
 use Rattle.session.specs.declared.Session.{Session}
 use Rattle.session_replies.specs.Answers.Laws.{yes-holds, no-holds}
@@ -23,7 +24,7 @@ use Rattle.transcript.specs.Output.{Beat, more, last}
 use Rattle.transcript.specs.Core.{counted, noPlace, coreNo, coreYes}
 use Rattle.interview_replies.specs.declared.Interview.{Interview}
 use Rattle.interview_replies.specs.declared.Beaten.{Beaten}
-use Rattle.interview_replies.specs.Holding.{holding, Asks, lineWritten, Leaves}
+use Rattle.interview_replies.specs.Holding.{holding, lineWritten, Leaves}
 
 -- ---- what is left, by how the beat goes on
 
@@ -81,18 +82,18 @@ module _ (i : Interview) (rows list : List ℕ) where
           let l : length list / 2 ≤ length (implicationsOf (i .rules) list) = omega (arith, length-pairs implication (i .rules) list) in
           leaves-last _ _ i end rows list p _ (text-on p _ _ t f) (rw (coreYes, le-leb _ _ l))
 
-      -- the question is in the list, and the current set the next one
-      pub yes-free : Asks i conclusion rows list → i .rules < length list / 2
+      -- the implication asked about is in the list, and the current set the next one
+      pub yes-free : i .n ≤ mostAttributes → i .rules < length list / 2
           → let words = set (set list (i .rules * 2) (i .current)) (i .rules * 2 + 1) conclusion in
           (current changes : ℕ) → current ≡ next (inForce [] words (i .rules + 1)) (min (i .n) 64) (i .current) → changes ≡ counted (i .changes)
           → Leaves (coreYes (holding i rows list) (i .changes) (implication (i .current) conclusion))
           (record { interview = record { n = i .n; rows = i .rows; rules = i .rules + 1; current = current; changes = changes }; at = end; last = false })
           rows words p p′
       unfolding coreYes
-      yes-free q h current changes e k =
+      yes-free small h current changes e k =
           let l : length (implicationsOf (i .rules) list) < length list / 2 = omega (arith, length-pairs implication (i .rules) list) in
           let words = set (set list (i .rules * 2) (i .current)) (i .rules * 2 + 1) conclusion in
           let x : Session = record { n = i .n; rows = i .rows; rules = i .rules; current = i .current } in
-          leaves-more _ _ _ end rows words p p′ t (afterYes (holding i rows list)) (counted (i .changes))
+          leaves-more _ _ _ end rows words p p′ t (agreeing (holding i rows list) (implication (i .current) conclusion)) (counted (i .changes))
           (ap (λ c. stateOf (record { n = i .n; rows = i .rows; rules = i .rules + 1; current = c }) rows words []) e
-          ∙ yes-holds x rows list [] (i .current) conclusion (q .attributes) (q .is-question) (omega arith)) k (rw (coreYes, lt-leb _ _ l))
+          ∙ yes-holds x rows list [] (i .current) conclusion small (omega arith)) k (rw (coreYes, lt-leb _ _ l))

@@ -24,7 +24,7 @@ returns c =
     let d = refused c .before .before in
     let line = asked (d .before) in
     let a = start line .args in
-    λ q. yes-full (a .interview) (a .rows .now) (a .list .now) (a .conclusion) _ (line .put-yes .ensures) (d .if1 .taken) (refused c .put-refusal .ensures)
+    λ small. yes-full (a .interview) (a .rows .now) (a .list .now) (a .conclusion) _ (line .put-yes .ensures) (d .if1 .taken) (refused c .put-refusal .ensures)
 
 slice-write-list-2 : tie.Need-slice-write-list-2
 slice-write-list-2 c = rw length-set (omega (arith, c .if1 .left))
@@ -34,7 +34,7 @@ returns-2 c =
     let d = free (c .before) in
     let line = asked (d .before) in
     let a = start line .args in
-    λ q. yes-free (a .interview) (a .rows .now) (a .list .now) (a .conclusion) _ (line .put-yes .ensures) q (omega (arith, d .if1 .left))
+    λ small. yes-free (a .interview) (a .rows .now) (a .list .now) (a .conclusion) _ (line .put-yes .ensures) small (omega (arith, d .if1 .left))
     (c .before .next-of .result) (c .count-change .result) (c .before .next-of .ensures) (c .count-change .ensures)
 
 pub say-yes-spec : {M : Type 1} → statement M

@@ -13,9 +13,9 @@ use Rattle.implication.specs.Pairs.Laws.{pairs-put}
 use Rattle.implication.specs.Closure.{implication, implicationsOf, allImplications, inForce}
 use Rattle.next_set.specs.Next.{next}
 use Rattle.context.specs.Objects.{Object, object, objectsOf}
-use Rattle.machine.specs.Checks.{State, firstFailing, sessionChecks, yesChecks, noChecks, question}
+use Rattle.machine.specs.Checks.{State, firstFailing, sessionChecks, yesChecks, noChecks}
 use Rattle.machine.specs.Checks.Laws.{passed-append, none-failing, checked-small}
-use Rattle.machine.specs.Machine.{accept, reject, afterYes, afterNo, checksOf}
+use Rattle.machine.specs.Machine.{accept, reject, agreeing, afterNo, checksOf}
 use Rattle.machine.specs.Calls.{stateOf}
 
 -- an accepted reply finds a place, and n is at most 64
@@ -34,11 +34,11 @@ module _ (x : Session) (rows list background : List ℕ) (a b : ℕ) where
   abbrev before : State
   before = stateOf x rows list background
 
-  pub yes-holds : x .n ≤ 64 → implication a b ≡ question before → x .rules * 2 + 1 < length list
+  pub yes-holds : x .n ≤ 64 → x .rules * 2 + 1 < length list
       → let words = set (set list (x .rules * 2) a) (x .rules * 2 + 1) b in
       stateOf (record { n = x .n; rows = x .rows; rules = x .rules + 1; current = next (inForce background words (x .rules + 1)) (min (x .n) 64) (x .current) }) rows words background
-      ≡ afterYes before
-  yes-holds small q h = λ i. record {
+      ≡ agreeing before (implication a b)
+  yes-holds small h = λ i. record {
     n = x .n;
     lent = record { rows = length rows; list = same i; background = length background };
     background = allImplications background;
@@ -53,9 +53,8 @@ module _ (x : Session) (rows list background : List ℕ) (a b : ℕ) where
       same : length words ≡ length list
       same = length-set (set list (x .rules * 2) a) (x .rules * 2 + 1) b ∙ length-set list (x .rules * 2) a
 
-      joined : implicationsOf (x .rules + 1) words ≡ implicationsOf (x .rules) list ++ (question before ∷ [])
+      joined : implicationsOf (x .rules + 1) words ≡ implicationsOf (x .rules) list ++ (implication a b ∷ [])
       joined = ap (λ k. implicationsOf k words) (add-one (x .rules)) ∙ pairs-put implication (x .rules) list a b h
-          ∙ ap (λ r. implicationsOf (x .rules) list ++ (r ∷ [])) q
 
       limit : min (x .n) 64 ≡ x .n
       limit = omega arith

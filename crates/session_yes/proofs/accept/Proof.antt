@@ -8,8 +8,8 @@ use lib.ListN.{length, set, length-set}
 use borrow.Author.Needs.{needs}
 use Rattle.implication.specs.Pairs.Laws.{length-pairs}
 use Rattle.implication.specs.Closure.{implication}
-use Rattle.machine.specs.Checks.{State, firstFailing, question}
-use Rattle.machine.specs.Machine.{accept, taken, turn, afterYes, checksOf, performed, perform}
+use Rattle.machine.specs.Checks.{State, firstFailing}
+use Rattle.machine.specs.Machine.{accept, taken, turn, agreeing, afterYes, checksOf, performed, perform}
 use Rattle.machine.specs.Machine.Laws.{perform-accepted, perform-refused}
 use Rattle.machine.specs.Calls.{stateOf}
 use Rattle.machine.specs.Calls.Laws.{performs, turns}
@@ -97,7 +97,8 @@ returns-2 c =
     let same = ap (λ (x : Question). implication (x .premise) (x .conclusion)) (passed d .0) in
     let words = set (set l (k * 2) (q .premise)) (k * 2 + 1) (q .conclusion) in
     let holds = ap (λ (p : ℕ). stateOf (record { n = a .session .n; rows = a .session .rows; rules = k + 1; current = p }) (a .rows .now) words (a .background .now)) (c .next-of .ensures)
-    ∙ yes-holds (a .session) (a .rows .now) l (a .background .now) (q .premise) (q .conclusion) (yes-small s (passed d .1) .0) same (room d) in
+    ∙ yes-holds (a .session) (a .rows .now) l (a .background .now) (q .premise) (q .conclusion) (yes-small s (passed d .1) .0) (room d)
+    ∙ ap (agreeing s) same in
     turns (performs (turned d ∙ ap (turn taken) (sym holds)) refl (written k (length (s .list)) l _ _ same (sym (length-pairs implication k l)))) refl
 
 pub accept-spec : {M : Type 1} → statement M

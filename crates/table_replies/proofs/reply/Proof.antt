@@ -1,5 +1,4 @@
 -- The first row of the table that refutes decides, and its words are the table's.
-use mathlib.Core.List.{[]}
 use Rattle.interview_replies.specs.Holding.Laws.{leaves-same}
 use Rattle.table_replies.specs.Reply.Laws.{reply-no, reply-yes}
 use borrow.Author.Needs.{needs}
@@ -28,8 +27,8 @@ returns c =
     let whole = d .before .smaller in
     let first = d .before .before .first-refuting in
     let a = start (d .before .before) .args in
-    λ fits asks. leaves-same
-    (reply-no (a .interview) (a .rows .now) (a .list .now) (a .conclusion) (a .objects) (a .table .now) fits (first .result) (whole .result) (first .ensures []) (whole .ensures) (d .if1 .taken))
+    λ fits. leaves-same
+    (reply-no (a .interview) (a .rows .now) (a .list .now) (a .conclusion) (a .objects) (a .table .now) fits (first .result) (whole .result) (first .ensures) (whole .ensures) (d .if1 .taken))
     (no c .say-no .ensures)
 
 returns-2 : tie.Need-returns-2
@@ -38,9 +37,9 @@ returns-2 c =
     let whole = d .before .smaller in
     let first = d .before .before .first-refuting in
     let a = start (d .before .before) .args in
-    λ fits asks. leaves-same
-    (reply-yes (a .interview) (a .rows .now) (a .list .now) (a .conclusion) (a .objects) (a .table .now) fits (first .result) (whole .result) (first .ensures []) (whole .ensures) (d .if1 .left))
-    (yes c .say-yes .ensures asks)
+    λ fits. leaves-same
+    (reply-yes (a .interview) (a .rows .now) (a .list .now) (a .conclusion) (a .objects) (a .table .now) fits (first .result) (whole .result) (first .ensures) (whole .ensures) (d .if1 .left))
+    (yes c .say-yes .ensures (fits .attributes))
 
 pub reply-spec : {M : Type 1} → statement M
 reply-spec =

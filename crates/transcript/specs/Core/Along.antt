@@ -1,4 +1,6 @@
--- What holds along an interview of a complete table, and that every check of a session passes there (`session-passes`): 01, 1 to 7.
+-- What holds along an interview of a complete table: what a row of the table counts as having and lacking is what is written, so that
+-- reach, question and refutation are those by written marks (`same-reach`, `same-question`, `same-refutes`), and every check of a session
+-- passes (`session-passes`): 01, 1 to 7.
 use mathlib.Core.Path.{_≡_, refl, sym, ap, subst}
 use mathlib.Core.Bool.{Bool, false, not, _||_}
 use mathlib.Core.List.{List, [], _++_, List·Memᴰ, append-nil}
@@ -6,25 +8,27 @@ use mathlib.Core.Option.{none}
 use Prim.Native.Nat.{ℕ, _/_, _≤_}
 use lib.ListN.{length}
 use lib.Dec.{eqb, ltb}
-use borrow.Author.Tests.{eq-eqb, le-ltb}
+use borrow.Author.Tests.{eq-eqb, le-ltb, ltb-false}
 use Rattle.theory.specs.Lists.{All, Pairwise}
 use Rattle.theory.specs.Lists.Laws.{all-nil, all-append}
 use Rattle.theory.specs.Implications.{Implication, Over}
-use Rattle.attribute_set.specs.Sets.{full}
+use Rattle.attribute_set.specs.Sets.{full, without}
 use Rattle.attribute_set.specs.Sets.Laws.{sub-refl, sub-inside, or-left, or-right}
 use Rattle.attribute_set.specs.Lectic.Rank.{rank}
 use Rattle.attribute_set.specs.Words.{words}
-use Rattle.implication.specs.Closure.{closure}
+use Rattle.implication.specs.Closure.{implication, closure}
 use Rattle.implication.specs.Closure.Laws.{closed-closure}
 use Rattle.context.specs.Places.Laws.{all-anywhere}
-use Rattle.context.specs.Objects.{Object, contradicts}
+use Rattle.context.specs.Objects.{Object, refutes, refutesWritten, contradicts}
 use Rattle.context.specs.Objects.Laws.{apart-marked}
 use Rattle.context.specs.Tables.{Table, AgreesObject, AgreesImplication}
 use Rattle.context.specs.Tables.Laws.{no-contradiction}
 use Rattle.session.specs.Limits.{badLength, mostAttributes, mostObjects, mostImplications}
-use Rattle.machine.specs.Checks.{State, force, strange, strangeObject, strangeImplication, outsideM, firstFailing, sessionChecks}
-use Rattle.machine.specs.Checks.Laws.{InM, Passed, none-failing}
+use Rattle.written_marks.specs.Written.Laws.{Settled, refutes-written, reach-written}
+use Rattle.machine.specs.Checks.{State, force, reachOf, question, strange, strangeObject, strangeImplication, outsideM, firstFailing, sessionChecks}
+use Rattle.machine.specs.Checks.Laws.{InM, Passed, none-failing, or-false}
 use Rattle.machine.specs.Demand3.Invariant.{Reached, current-in}
+use Rattle.written_machine.specs.Reading.{writtenReach, writtenQuestion}
 
 -- two different rows
 abbrev pub Differ : Object → Object → Type 0
@@ -79,6 +83,25 @@ module _ (table : List Object) (s : State) (changes : ℕ) (a : Along table s ch
   -- so that no row of the table contradicts them
   pub row-consistent : (o : Object) → List·Memᴰ o table → contradicts (force s) o ≡ false
   row-consistent o m = no-contradiction (s .n) table (force s) o (a .complete) (a .reached .over) agrees-force (own-row table o m)
+
+  -- ---- by written marks
+
+  pub few-attributes : s .n ≤ mostAttributes
+  few-attributes = ltb-false _ _ (or-false (eqb (s .n) 0) (ltb mostAttributes (s .n)) (a .attributes) .1)
+
+  settled : (o : Object) → List·Memᴰ o table → Settled (s .n) (force s) o
+  settled o m = record { complete = a .complete o m; agrees = row-consistent o m }
+
+  pub same-refutes : (o : Object) → List·Memᴰ o table → (r : Implication ℕ) → refutes (force s) o r ≡ refutesWritten o r
+  same-refutes o m r = refutes-written (s .n) few-attributes (force s) (a .reached .over) o (settled o m) r
+
+  pub same-reach : reachOf s ≡ writtenReach s
+  same-reach = reach-written (s .n) few-attributes (force s) (a .reached .over) (s .rows) (λ o m. settled o (a .rows o m)) (s .n) (s .current)
+
+  pub same-question : question s ≡ writtenQuestion s
+  same-question = ap (λ x. implication (s .current) (without x (s .current))) same-reach
+
+  -- ---- the checks
 
   -- nothing has an attribute outside M, and the current set is closed
   familiar : outsideM s [] ≡ false

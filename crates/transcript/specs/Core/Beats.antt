@@ -6,7 +6,7 @@ use mathlib.Core.List.{List, [], _∷_, _++_, List·Memᴰ, List·Memᴰ·head, 
 use Prim.Native.Nat.{ℕ, zero, suc, _+_, _/_, _^_, _≤_, _<_}
 use native.Mathlib.Omega.{arith}
 use lib.ListN.{length, length-append, getD}
-use lib.Dec.{eqb, ltb, leb}
+use lib.Dec.{ltb, leb}
 use lib.Pow.{pow-mono}
 use borrow.Author.Tests.{eq-eqb, ne-eqb, ltb-true, ltb-false}
 use Rattle.theory.specs.Lists.{All, Pairwise}
@@ -19,14 +19,13 @@ use Rattle.attribute_set.specs.Words.{words}
 use Rattle.next_set.specs.Next.{next}
 use Rattle.next_set.specs.Next.Laws.{next-is}
 use Rattle.context.specs.Places.Laws.{lowest-at, none-lowest, all-anywhere}
-use Rattle.context.specs.Objects.{Object, object, refutes, firstRefuting, contradicts}
-use Rattle.context.specs.Objects.Laws.{has-written, lacks-written, spares, apart-marked}
+use Rattle.context.specs.Objects.{Object, object, refutes, refutesWritten, firstWritten, contradicts}
+use Rattle.context.specs.Objects.Laws.{spares, apart-marked}
 use Rattle.reach.specs.Reach.Laws.{reach-apart}
 use Rattle.context.specs.Tables.{AgreesImplication}
 use Rattle.context.specs.Tables.Laws.{no-contradiction}
-use Rattle.session.specs.Limits.{mostAttributes}
 use Rattle.machine.specs.Checks.{State, check, force, reachOf, question, withQuestion, firstFailing, sessionChecks, yesChecks, noChecks}
-use Rattle.machine.specs.Checks.Laws.{or-false, Stands, passed, failing-nothing, failing-here, failing-later, failing-append}
+use Rattle.machine.specs.Checks.Laws.{Stands, passed, failing-nothing, failing-here, failing-later, failing-append}
 use Rattle.machine.specs.Machine.{Call, step, accept, reject, taken, turn, afterMove, afterYes, afterNo, performed, checksOf, perform}
 use Rattle.machine.specs.Machine.Laws.{perform-refused, perform-accepted, step-cases}
 use Rattle.machine.specs.Facts.Laws.{standing-question}
@@ -35,7 +34,7 @@ use Rattle.output_lines.specs.Lines.{yesLine, noLine, listLines}
 use Rattle.closing_lines.specs.Closing.{endLine, refusalLine}
 use Rattle.transcript.specs.Output.{Beat, more, last, replied, answered, stepped, beat}
 use Rattle.transcript.specs.Core.{counted, noPlace, coreNo, coreYes, coreReply, coreBeat}
-use Rattle.transcript.specs.Core.Along.{Differ, Along, in-familiar, or-none, own-row, row-in, agrees-force, row-consistent, session-passes}
+use Rattle.transcript.specs.Core.Along.{Differ, Along, in-familiar, or-none, own-row, row-in, agrees-force, row-consistent, few-attributes, same-refutes, same-reach, same-question, session-passes}
 
 -- ---- the row that refutes
 
@@ -44,25 +43,20 @@ at-member [] i d h = absurd (omega arith)
 at-member (o ∷ l) zero d h = List·Memᴰ·head refl
 at-member (o ∷ l) (suc i) d h = List·Memᴰ·tail (at-member l i d (omega arith))
 
--- a row refutes by its own marks, whatever is in force
-refutes-same : (rs ts : List (Implication ℕ)) (o : Object) (r : Implication ℕ) → refutes rs o r ≡ refutes ts o r
-unfolding refutes
-refutes-same rs ts o r = rw (has-written rs o, has-written ts o, lacks-written rs o, lacks-written ts o) refl
-
--- a row of the table that refutes q
+-- a row of the table that refutes q by its own marks
 pub record Refuting (table : List Object) (q : Implication ℕ) (o : Object) : Type 0 where
   pub member : List·Memᴰ o table
-  pub refutes : refutes [] o q ≡ true
+  pub refutes : refutesWritten o q ≡ true
 
 module _ (table : List Object) (q : Implication ℕ) where
-  pub row-refutes : ltb (firstRefuting [] table q) (length table) ≡ true → Refuting table q (getD table (firstRefuting [] table q) (object 0 0))
-  unfolding firstRefuting
+  pub row-refutes : ltb (firstWritten table q) (length table) ≡ true → Refuting table q (getD table (firstWritten table q) (object 0 0))
+  unfolding firstWritten
   row-refutes e =
       let l = ltb-true _ _ e in
       record { member = at-member table _ _ l; refutes = lowest-at _ table (object 0 0) l .0 }
 
-  pub none-refutes : ltb (firstRefuting [] table q) (length table) ≡ false → AgreesImplication table q
-  unfolding firstRefuting
+  pub none-refutes : ltb (firstWritten table q) (length table) ≡ false → AgreesImplication table q
+  unfolding firstWritten
   none-refutes e = none-lowest _ table (ltb-false _ _ e)
 
 -- a reply is a no with a row that refutes, or a yes that the table agrees with
@@ -73,7 +67,7 @@ unfolding coreReply
 reply-cases table s changes q P refuted spared = go (ltb row (length table)) refl
   where
     row : ℕ
-    row = firstRefuting [] table q
+    row = firstWritten table q
 
     o : Object
     o = getD table row (object 0 0)
@@ -94,14 +88,15 @@ filed-spares s o m =
     (λ h. apart-sub (without-sub _ _) (sub-refl _) (reach-apart (force s) (s .n) (s .rows) (s .current) o m h))
 
 module _ (table : List Object) (s : State) (o : Object) (r : Refuting table (question s) o) where
-  pub row-new : All (λ x. Differ x o) (s .rows)
-  row-new x m e =
-      false≢true (sym (filed-spares s x m) ∙ refutes-same (force s) [] x (question s) ∙ ap (λ y. refutes [] y (question s)) e ∙ r .refutes)
+  pub row-new : (changes : ℕ) → Along table s changes → All (λ x. Differ x o) (s .rows)
+  row-new changes a x m e =
+      let same = same-refutes table s changes a x (a .rows x m) (question s) in
+      false≢true (sym (filed-spares s x m) ∙ same ∙ ap (λ y. refutesWritten y (question s)) e ∙ r .refutes)
 
   -- with the new row they are still rows of the table that differ
   pub rows-fewer : (changes : ℕ) → Along table s changes → length (s .rows) < length table
   rows-fewer changes a =
-      let different = pairwise-snoc Differ (s .rows) o (a .different) row-new in
+      let different = pairwise-snoc Differ (s .rows) o (a .different) (row-new changes a) in
       let few = few-different (s .rows ++ (o ∷ [])) table different (all-snoc (s .rows) o (a .rows) (r .member)) in
       omega (arith, few, length-append (s .rows) (o ∷ []))
 
@@ -118,8 +113,7 @@ module _ (table : List Object) (s : State) (changes : ℕ) (a : Along table s ch
   -- and a word holds every place
   pub counted-is : (x : ℕ) → suc changes ≤ rank (s .n) x → counted changes ≡ suc changes
   counted-is x h =
-      let n-most = ltb-false mostAttributes (s .n) (or-false (eqb (s .n) 0) _ (a .attributes) .1) in
-      let small : 2 ^ s .n ≤ 2 ^ 64 = pow-mono n-most in
+      let small : 2 ^ s .n ≤ 2 ^ 64 = pow-mono (few-attributes table s changes a) in
       omega (arith, small, rank-lt (s .n) x)
 
   -- ---- a reply
@@ -142,7 +136,7 @@ module _ (table : List Object) (s : State) (changes : ℕ) (a : Along table s ch
     no-checks o r =
         let once = apart-marked o (a .complete o (r .member) .apart) in
         let fitting = or-none _ _ (in-familiar (s .n) o (row-in table s changes a o (r .member))) once in
-        let refuting = ap not (refutes-same (force s) [] o (question s) ∙ r .refutes) in
+        let refuting = ap not (same-refutes table s changes a o (r .member) (question s) ∙ r .refutes) in
         failing-append (sessionChecks s []) (noChecks s o) (passed _ (session-passes table s changes a))
         ∙ failing-later _ _ (standing-question s t) ∙ failing-later _ _ fitting ∙ failing-later _ _ refuting
         ∙ failing-later _ _ (row-consistent table s changes a o (r .member))
@@ -179,10 +173,10 @@ module _ (table : List Object) (s : State) (changes : ℕ) (a : Along table s ch
 
     core-answer : answered table s changes (question s) ≡ coreReply table s changes (question s)
     unfolding answered coreReply
-    core-answer = go (ltb (firstRefuting [] table (question s)) (length table)) refl
+    core-answer = go (ltb (firstWritten table (question s)) (length table)) refl
       where
         row : ℕ
-        row = firstRefuting [] table (question s)
+        row = firstWritten table (question s)
 
         o : Object
         o = getD table row (object 0 0)
@@ -204,14 +198,17 @@ module _ (table : List Object) (s : State) (changes : ℕ) where
   unfolding coreBeat
   core-last e = rw (eq-eqb _ _ e, coreBeat) refl
 
-  pub core-moved : (s .current ≡ full (s .n) → ⊥) → reachOf s ≡ s .current
-      → coreBeat table s changes ≡ more [] (afterMove s) (counted changes)
-  unfolding coreBeat
-  core-moved ne e = rw (ne-eqb _ _ ne, coreBeat) (rw (eq-eqb _ _ e) refl)
+  module _ (a : Along table s changes) where
+    pub core-moved : (s .current ≡ full (s .n) → ⊥) → reachOf s ≡ s .current
+        → coreBeat table s changes ≡ more [] (afterMove s) (counted changes)
+    unfolding coreBeat
+    core-moved ne e = rw (ne-eqb _ _ ne, coreBeat) (rw (eq-eqb _ _ (sym (same-reach table s changes a) ∙ e)) refl)
 
-  pub core-asked : (s .current ≡ full (s .n) → ⊥) → (reachOf s ≡ s .current → ⊥) → coreBeat table s changes ≡ coreReply table s changes (question s)
-  unfolding coreBeat
-  core-asked ne d = rw (ne-eqb _ _ ne, coreBeat) (rw (ne-eqb _ _ d) refl)
+    pub core-asked : (s .current ≡ full (s .n) → ⊥) → (reachOf s ≡ s .current → ⊥) → coreBeat table s changes ≡ coreReply table s changes (question s)
+    unfolding coreBeat
+    core-asked ne d =
+        rw (ne-eqb _ _ ne, coreBeat)
+        (rw (ne-eqb _ _ (λ e. d (same-reach table s changes a ∙ e))) (ap (coreReply table s changes) (sym (same-question table s changes a))))
 
 pub core-beat : (table : List Object) (s : State) (changes : ℕ) → Along table s changes → beat table s changes ≡ coreBeat table s changes
 unfolding beat performed checksOf
@@ -221,5 +218,5 @@ core-beat table s changes a =
     (λ e. sym (core-last table s changes e))
     (λ ne e.
     let count = counted-is table s changes a _ (later-counts table s changes a (force s) (a .reached .over) ne) in
-    ap (more [] (afterMove s)) (sym count) ∙ sym (core-moved table s changes ne e))
-    (λ ne d. core-answer table s changes a (record { below = ne; differs = d }) ∙ sym (core-asked table s changes ne d)))
+    ap (more [] (afterMove s)) (sym count) ∙ sym (core-moved table s changes a ne e))
+    (λ ne d. core-answer table s changes a (record { below = ne; differs = d }) ∙ sym (core-asked table s changes a ne d)))

@@ -2,12 +2,11 @@
 use mathlib.Core.Path.{_≡_, refl}
 use mathlib.Core.List.{[], _∷_, _++_}
 use Rattle.attribute_set.specs.Sets.{inside, meets, full, without}
-use Rattle.attribute_set.specs.Passing.{passing}
 use Rattle.implication.specs.Closure.{implication, fire, pass, close, closure}
 use Rattle.next_set.specs.Next.{fits, nextBelow}
 use Rattle.context.specs.Places.{lowest}
-use Rattle.context.specs.Objects.{object, has, excludes, lacks, refutes, firstRefuting}
-use Rattle.reach.specs.Reach.{cut, narrow, reach}
+use Rattle.context.specs.Objects.{object, refutesWritten, firstWritten}
+use Rattle.written_marks.specs.Written.{cutWritten, narrowWritten, reachWritten}
 use Rattle.machine.specs.Checks.{State}
 use Rattle.machine.specs.Traps.{state, bare}
 use Rattle.output_lines.specs.Lines.{yesLine, noLine}
@@ -31,5 +30,5 @@ pub record Cases : Type 0 where
   pub end : coreBeat [] (state [] [] 7) 5 ≡ last (closing (state [] [] 7) 5)
 
 pub cases : Cases
-unfolding inside meets full without fire pass close closure fits nextBelow lowest passing has excludes lacks refutes firstRefuting cut narrow reach coreNo coreYes coreReply coreBeat
+unfolding inside meets full without fire pass close closure fits nextBelow lowest refutesWritten firstWritten cutWritten narrowWritten reachWritten coreNo coreYes coreReply coreBeat
 cases = record { tight = refl; no = refl; yes = refl; no-place = refl; end = refl }

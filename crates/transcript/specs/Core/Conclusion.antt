@@ -21,14 +21,14 @@ use Rattle.machine.specs.Checks.{Lent, State, force, question}
 use Rattle.machine.specs.Machine.{step, finished, performed, checksOf, opening, opened, afterNo, afterYes}
 use Rattle.machine.specs.Machine.Laws.{perform-accepted, step-cases, opened-is}
 use Rattle.machine.specs.Demand3.{OverM, Finished}
-use Rattle.machine.specs.Demand3.Theorem.{decided, shortest, unrefuted-by}
+use Rattle.machine.specs.Demand3.Theorem.{decided, shortest}
 use Rattle.output_lines.specs.Lines.{yesLine, noLine, listLines}
 use Rattle.closing_lines.specs.Closing.{endLine, refusalLine}
 use Rattle.transcript.specs.Output.{Beat, more, last, beat, beats, enough}
 use Rattle.transcript.specs.Output.Ends.{measure, measure-enough, beat-falls}
 use Rattle.transcript.specs.Core.{counted, noPlace, coreNo, coreYes, coreReply, coreBeat}
 use Rattle.transcript.specs.Ending.{Decides, Concluded, Full}
-use Rattle.transcript.specs.Core.Along.{Along, own-row, agrees-force, session-passes}
+use Rattle.transcript.specs.Core.Along.{Along, agrees-force, same-refutes, session-passes}
 use Rattle.transcript.specs.Core.Beats.{Refuting, reply-cases, rows-fewer, core-last, core-moved, core-asked, core-beat}
 use Rattle.transcript.specs.Core.Kept.{core-kept, opened-along}
 
@@ -59,7 +59,7 @@ module _ (table : List Object) (s : State) (changes : ℕ) (a : Along table s ch
     list-decides r i = (
       λ e. follows-tables (s .n) (force s) (a .reached .over) r i .0 (rw in-list e) table (a .complete) (agrees-force table s changes a),
       λ h. subst (λ l. follows l r ≡ true) in-list
-          (decided s (a .reached) is-finished r i .1 (λ o m. unrefuted-by table (force s) o r (own-row table o (a .rows o m)) h)),
+          (decided s (a .reached) is-finished r i .1 (λ o m. same-refutes table s changes a o (a .rows o m) r ∙ h o (a .rows o m))),
     )
 
     list-shortest : (l : List (Implication ℕ)) → All (OverM (s .n)) l → Decides (s .n) table l → length (s .list) ≤ length l
@@ -161,8 +161,8 @@ module _ (table : List Object) (s : State) (changes : ℕ) (a : Along table s ch
   last-ends k =
       step-cases s (λ t. Ends (s .n) table (s .lent) line)
       (λ e. subst (λ t. Ends (s .n) table (s .lent) t) (same-line _ _ (sym (core-last table s changes e) ∙ k)) (inl (concluded table s changes a e)))
-      (λ ne e. absurd (not-last _ _ _ _ (sym (core-moved table s changes ne e) ∙ k)))
-      (λ ne d. inr (reply-refused (sym (core-asked table s changes ne d) ∙ k)))
+      (λ ne e. absurd (not-last _ _ _ _ (sym (core-moved table s changes a ne e) ∙ k)))
+      (λ ne d. inr (reply-refused (sym (core-asked table s changes a ne d) ∙ k)))
 
 -- ---- all beats
 

@@ -55,7 +55,7 @@ module _ (table : List Object) (s : State) (changes : ℕ) (a : Along table s ch
     lengths = a .lengths;
     background = a .background;
     rows = all-snoc (s .rows) o (a .rows) (r .member);
-    different = pairwise-snoc Differ (s .rows) o (a .different) (row-new table s o r);
+    different = pairwise-snoc Differ (s .rows) o (a .different) (row-new table s o r changes a);
     list = a .list;
     row-places = omega (arith, leb-false (s .lent .rows / 2) (length (s .rows)) f, length-append (s .rows) (o ∷ []));
     list-places = a .list-places;
@@ -123,8 +123,8 @@ module _ (table : List Object) (s : State) (changes : ℕ) (a : Along table s ch
     core-kept k =
         step-cases s (λ t. BeatKeeps table s s′ c′)
         (λ e. not-more _ (sym (core-last table s changes e) ∙ k))
-        (λ ne e. goes-to _ _ _ refl refl (moved-along ne e) (sym (core-moved table s changes ne e) ∙ k))
-        (λ ne d. reply-kept (record { below = ne; differs = d }) (sym (core-asked table s changes ne d) ∙ k))
+        (λ ne e. goes-to _ _ _ refl refl (moved-along ne e) (sym (core-moved table s changes a ne e) ∙ k))
+        (λ ne d. reply-kept (record { below = ne; differs = d }) (sym (core-asked table s changes a ne d) ∙ k))
 
 pub core-along : (table : List Object) (s : State) (changes : ℕ) → Along table s changes
     → (line : List ℕ) (s′ : State) (c′ : ℕ) → coreBeat table s changes ≡ more line s′ c′ → Along table s′ c′

@@ -12,9 +12,10 @@ use Rattle.theory.specs.Implications.{Implication}
 use Rattle.attribute_set.specs.Sets.{full}
 use Rattle.context.specs.Objects.{Object}
 use Rattle.session.specs.Limits.{badLength, mostAttributes, mostObjects, mostImplications}
-use Rattle.machine.specs.Checks.{State, reachOf, question}
+use Rattle.machine.specs.Checks.{State}
 use Rattle.machine.specs.Checks.Laws.{or-false}
-use Rattle.machine.specs.Machine.{afterMove, afterYes, afterNo}
+use Rattle.machine.specs.Machine.{afterMove, agreeing, afterNo}
+use Rattle.written_machine.specs.Reading.{writtenReach, writtenQuestion}
 use Rattle.text.specs.Text.{numberText}
 use Rattle.text.specs.Text.Digits.Laws.{number-short}
 use Rattle.output_lines.specs.Lines.{ruleText, yesLine, noLine, listLines}
@@ -23,7 +24,7 @@ use Rattle.closing_lines.specs.Closing.{endLine, refusalLine}
 use Rattle.closing_lines.specs.Closing.Laws.{refusal-length}
 use Rattle.transcript.specs.Output.{Beat, more, last, beat, beats, outputMost}
 use Rattle.transcript.specs.Core.{counted, noPlace, coreNo, coreYes, coreReply, coreBeat}
-use Rattle.transcript.specs.Core.Along.{Along}
+use Rattle.transcript.specs.Core.Along.{Along, few-attributes}
 use Rattle.transcript.specs.Core.Beats.{reply-cases, core-beat}
 use Rattle.transcript.specs.Core.Kept.{core-along}
 
@@ -67,9 +68,6 @@ few-words most words e =
     omega arith
 
 module _ (table : List Object) (s : State) (changes : ℕ) (h : Along table s changes) where
-  few-attributes : s .n ≤ mostAttributes
-  few-attributes = ltb-false _ _ (or-false (eqb (s .n) 0) (ltb mostAttributes (s .n)) (h .attributes) .1)
-
   few-places : (s .lent .rows / 2 ≤ mostObjects) × (s .lent .list / 2 ≤ mostImplications)
   few-places =
       let x = or-false (badLength mostObjects (s .lent .rows)) _ (h .lengths) in
@@ -87,10 +85,10 @@ module _ (table : List Object) (s : State) (changes : ℕ) (h : Along table s ch
           ])
       go true e =
           rw (length-append (noLine (s .n) q number))
-          (omega (arith, no-length (s .n) few-attributes q number, refusal-length noPlace))
+          (omega (arith, no-length (s .n) (few-attributes table s changes h) q number, refusal-length noPlace))
       go false e =
           let l : length (s .rows) < s .lent .rows / 2 = leb-false _ _ e in
-          omega (arith, no-length (s .n) few-attributes q number, length-append (s .rows) (o ∷ []))
+          omega (arith, no-length (s .n) (few-attributes table s changes h) q number, length-append (s .rows) (o ∷ []))
 
   yes-paid : (q : Implication ℕ) → Paid s (coreYes s changes q)
   unfolding coreYes
@@ -99,41 +97,41 @@ module _ (table : List Object) (s : State) (changes : ℕ) (h : Along table s ch
       go : (b : Bool) → leb (s .lent .list / 2) (length (s .list)) ≡ b
           → Paid s (elim b [
             | true ↦ last (yesLine (s .n) q ++ refusalLine noPlace)
-            | false ↦ more (yesLine (s .n) q) (afterYes s) (counted changes)
+            | false ↦ more (yesLine (s .n) q) (agreeing s q) (counted changes)
           ])
       go true e =
           rw (length-append (yesLine (s .n) q))
-          (omega (arith, yes-length (s .n) few-attributes q, refusal-length noPlace))
+          (omega (arith, yes-length (s .n) (few-attributes table s changes h) q, refusal-length noPlace))
       go false e =
           let l : length (s .list) < s .lent .list / 2 = leb-false _ _ e in
-          omega (arith, yes-length (s .n) few-attributes q, length-append (s .list) (question s ∷ []))
+          omega (arith, yes-length (s .n) (few-attributes table s changes h) q, length-append (s .list) (q ∷ []))
 
   reply-paid : (q : Implication ℕ) → Paid s (coreReply table s changes q)
   reply-paid q = reply-cases table s changes q (Paid s) (λ number o r. no-paid q number o) (λ agrees. yes-paid q)
 
   beat-paid : Paid s (coreBeat table s changes)
   unfolding coreBeat
-  beat-paid = go (eqb (s .current) (full (s .n))) (eqb (reachOf s) (s .current))
+  beat-paid = go (eqb (s .current) (full (s .n))) (eqb (writtenReach s) (s .current))
     where
       go : (b d : Bool)
           → Paid s (elim b [
             | true ↦ last (listLines (s .n) (s .list) ++ endLine (length (s .list)) (length (s .rows)) changes)
             | false ↦ elim d [
               | true ↦ more [] (afterMove s) (counted changes)
-              | false ↦ coreReply table s changes (question s)
+              | false ↦ coreReply table s changes (writtenQuestion s)
             ]
           ])
       go true d =
           rw (length-append (listLines (s .n) (s .list)))
           (omega (
             arith,
-            list-length (s .n) few-attributes (s .list),
+            list-length (s .n) (few-attributes table s changes h) (s .list),
             end-length (length (s .list)) (length (s .rows)) changes,
             few-places,
             h .list-places,
           ))
       go false true = omega arith
-      go false false = reply-paid (question s)
+      go false false = reply-paid (writtenQuestion s)
 
 -- ---- the output
 

@@ -13,7 +13,7 @@ use Rattle.theory.specs.Implications.{Implication}
 use Rattle.attribute_set.specs.Sets.{full}
 use Rattle.attribute_set.specs.Lectic.Rank.{rank, rank-lt, rank-before}
 use Rattle.next_set.specs.Next.Laws.{next-is}
-use Rattle.context.specs.Objects.{Object, object, firstRefuting}
+use Rattle.context.specs.Objects.{Object, object, firstWritten}
 use Rattle.machine.specs.Checks.{Lent, State, force, question, withQuestion, sessionChecks, noChecks}
 use Rattle.machine.specs.Checks.Laws.{passed-append}
 use Rattle.machine.specs.Machine.{step, accept, reject, Turn, afterMove, afterYes, afterNo, performStep, performed, checksOf, perform, opened, opening}
@@ -86,12 +86,12 @@ module _ (table : List Object) (s : State) (changes : ℕ) (h : Reached s) (line
 
   answer-falls : (s .current ≡ full (s .n) → ⊥) → (q : Implication ℕ) → answered table s changes q ≡ more line s′ c′ → Falls s s′
   unfolding answered
-  answer-falls ne q = go (ltb (firstRefuting [] table q) (length table))
+  answer-falls ne q = go (ltb (firstWritten table q) (length table))
     where
       go : (b : Bool)
           → _≡_ {A = Beat} (elim b [
             | true ↦
-                let row = firstRefuting [] table q in
+                let row = firstWritten table q in
                 let t = perform s (reject (getD table row (object 0 0))) in
                 replied (noLine (s .n) q (row + 1)) changes (t .answer) (t .after)
             | false ↦ let t = perform s accept in replied (yesLine (s .n) q) (suc changes) (t .answer) (t .after)
