@@ -23,7 +23,8 @@ static const char USAGE[] =
     "  log         the interview so far is taken up from it, and written to it as it goes\n"
     "  save        the table with the rows of your replies is written to it at the end\n"
     "  nearly      shown first: what more than this percentage of the rows with a property have too, and the rows that stand in the way\n"
-    "Answer a question with yes (y), or with no (n) and a row of marks that refutes it; behind the marks the row may get a name.\n";
+    "Answer a question with yes (y), or with no (n) and a row of marks that refutes it; behind the marks the row may get a name.\n"
+    "A mark that the rules imply may stay unknown.\n";
 
 static uint8_t file[ZUNDRAFL_MOST_BYTES + 1];
 static size_t bytes;
@@ -96,7 +97,8 @@ static uint64_t closure(uint64_t set, uint64_t premise, uint64_t conclusion) {
     return set;
 }
 
-/* A row contradicts the rules in force with one more, {} -> {} where there is none. */
+/* A row contradicts the rules in force with one more, {} -> {} where there is none. Which properties of the conclusion it lacks is open:
+ * one that it is known to lack would not have been asked about. */
 static void explain(size_t row, uint64_t premise, uint64_t conclusion) {
     uint64_t yes = rows[2 * row], no = rows[2 * row + 1];
     fputs("It is ", stderr);
@@ -108,8 +110,9 @@ static void explain(size_t row, uint64_t premise, uint64_t conclusion) {
     fputs(", which it lacks.\n", stderr);
     if (conclusion == 0) return;
     yes = closure(yes, 0, 0);
-    if ((conclusion & no) == 0) no |= conclusion & ~yes;
-    fputs("It is itself a counterexample. If it is right, answer: no ", stderr);
+    fputs("It lacks at least one of ", stderr);
+    show_set(stderr, conclusion & ~yes);
+    fputs(". If it is right, answer with a dot for each that it lacks: no ", stderr);
     show_marks(stderr, yes, no);
     fputs("\n", stderr);
 }

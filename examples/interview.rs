@@ -27,6 +27,7 @@ usage: interview [--background FILE] [--log FILE] [--save FILE] [--nearly PERCEN
   save        the table with the rows of your replies is written to it at the end
   nearly      shown first: what more than this percentage of the rows with a property have too, and the rows that stand in the way
 Answer a question with yes (y), or with no (n) and a row of marks that refutes it; behind the marks the row may get a name.
+A mark that the rules imply may stay unknown.
 ";
 
 /// Why an interview cannot go on: what to say, and the exit status.
@@ -230,19 +231,18 @@ impl Interview {
         }
     }
 
-    /// Why a row contradicts the rules in force with one more, {} -> {} where there is none.
+    /// Why a row contradicts the rules in force with one more, {} -> {} where there is none. Which properties of the conclusion it lacks
+    /// is open: one that it is known to lack would not have been asked about.
     fn explained(&self, row: usize, rule: [u64; 2]) -> String {
-        let (yes, mut no) = (self.rows[2 * row], self.rows[2 * row + 1]);
+        let (yes, no) = (self.rows[2 * row], self.rows[2 * row + 1]);
         let missing = self.named(self.closure(yes, rule) & no);
         let what = format!("It is {}: it has {}, so by the rules it would have {missing}, which it lacks.\n", self.row_name(row), self.named(yes));
         if rule[1] == 0 {
             return what;
         }
         let had = self.closure(yes, [0, 0]);
-        if rule[1] & no == 0 {
-            no |= rule[1] & !had;
-        }
-        format!("{what}It is itself a counterexample. If it is right, answer: no {}\n", self.marks(had, no))
+        let (lacked, marks) = (self.named(rule[1] & !had), self.marks(had, no));
+        format!("{what}It lacks at least one of {lacked}. If it is right, answer with a dot for each that it lacks: no {marks}\n")
     }
 
     fn refused(&self, a: Answer) -> Stop {

@@ -15,6 +15,7 @@ mod nearly;
 mod opened;
 mod random;
 #[path = "model/sets.rs"]
+#[allow(dead_code)]
 mod sets;
 #[path = "model/table.rs"]
 #[allow(dead_code)]
@@ -37,8 +38,11 @@ const MIN_SAMPLES: usize = 31;
 const SAMPLE_TIME: Duration = Duration::from_micros(40);
 const MAX_TIME: Duration = Duration::from_secs(2);
 const CALIBRATIONS: usize = 9;
-/// Rows and list rules in use.
+/// Rows and list rules in use, of complete rows and of rows with half of their marks unknown.
 const SIZES: [(usize, usize); 3] = [(10, 10), (100, 50), (512, 100)];
+const UNKNOWN_SIZE: (usize, usize) = (512, 256);
+/// The rows that have a set which few rows have.
+const FEW: usize = 16;
 
 const FOLLOWS_KIND: u64 = 3;
 const PERCENT: u64 = 80;
@@ -157,12 +161,31 @@ fn middle(random: &mut Random, n: usize, rows: usize, rules: usize) -> (State, V
     (state, table)
 }
 
+/// Rows with half of their marks unknown, of complete rows closed under the list. Its conclusions are from a quarter of the
+/// properties, so that rows have more than is marked, but not everything. The last property is in no rule and has no mark.
+fn half_unknown(random: &mut Random, n: usize, rows: usize, rules: usize) -> (State, Vec<Pair>) {
+    let marked = sets::all(n - 1);
+    let concluded = marked & !sets::all(3 * n / 4);
+    let list: Vec<Pair> = (0..rules).map(|_| (some(random, marked, 3), random.member(concluded))).collect();
+    let mut row = || {
+        let (yes, known) = (sets::closure(&list, random.subset(marked)), random.word());
+        (yes & known, marked & !yes & known)
+    };
+    let table: Vec<Pair> = (0..rows).map(|_| row()).collect();
+    let record = Record { n, rows, rules, current: 0 };
+    let (rows, words_of_list) = (words(&table), words(&list));
+    (State { record, rows, list: words_of_list, background: vec![], names: vec![], out: vec![] }, list)
+}
+
 fn with_current(state: &State, current: u64) -> State {
     State { record: Record { current, ..state.record }, ..state.clone() }
 }
 
-/// Every kind of call with a state for it and the code that it gives.
-fn calls(random: &mut Random, n: usize, rows: usize, rules: usize) -> Vec<(&'static str, State, Call, u64)> {
+/// A call by its name, with a state for it and the code that it gives.
+type Measured = (&'static str, State, Call, u64);
+
+/// Every kind of call.
+fn calls(random: &mut Random, n: usize, rows: usize, rules: usize) -> Vec<Measured> {
     let all = sets::all(n);
     let (state, table) = middle(random, n, rows, rules);
     let list: Vec<Pair> = state.list.chunks_exact(2).take(rules).map(|rule| (rule[0], rule[1])).collect();
@@ -198,6 +221,30 @@ fn calls(random: &mut Random, n: usize, rows: usize, rules: usize) -> Vec<(&'sta
         ("write", moving.clone(), Call::Write, ACCEPTED),
         ("nearly, of 0", moving.clone(), Call::Nearly(0), ACCEPTED),
         ("nearly, of 2", moving, Call::Nearly(two), ACCEPTED),
+    ]
+}
+
+/// The calls that read implied marks, over rows with half of their marks unknown: in a set that few rows have, and in the
+/// empty one, which all rows have. A step asks in both, since no row lacks the last property; no row refutes what it asks.
+fn implied_calls(random: &mut Random, n: usize, rows: usize, rules: usize) -> Vec<Measured> {
+    let (empty, list) = half_unknown(random, n, rows, rules);
+    let had = |row: usize| sets::closure(&list, empty.rows[2 * row]);
+    let shared = loop {
+        let current = had(random.below(rows)) & had(random.below(rows));
+        if (0..rows).filter(|&row| current & !had(row) == 0).count() <= FEW {
+            break with_current(&empty, current);
+        }
+    };
+    let asked = |state: &State| {
+        let Answer { first, second, .. } = by_model(&mut state.clone(), Call::Step);
+        Call::Refuted((first, second))
+    };
+    let (of_shared, of_empty) = (asked(&shared), asked(&empty));
+    vec![
+        ("step, asks", shared.clone(), Call::Step, ASKED),
+        ("step, of 0", empty.clone(), Call::Step, ASKED),
+        ("refuted", shared, of_shared, UNREFUTED),
+        ("refuted, of 0", empty, of_empty, UNREFUTED),
     ]
 }
 
@@ -244,27 +291,35 @@ fn medians(state: &State, call: Call, runs: [Run; 2]) -> [f64; 2] {
     })
 }
 
+/// Compares each call by library and model, and prints its times.
+fn measure(n: usize, rows: usize, rules: usize, calls: Vec<Measured>) {
+    for (name, state, call, code) in calls {
+        let mut left = [state.clone(), state.clone()];
+        let answers = [by_library(&mut left[0], call), by_model(&mut left[1], call)];
+        assert_eq!(answers[0], answers[1], "{name}");
+        assert_eq!(left[0], left[1], "{name}");
+        assert_eq!(answers[0].code, code, "{name}");
+
+        let [library, model] = medians(&state, call, [by_library, by_model]);
+        let ratio = library / model;
+        println!("{n:>3}{rows:>6}{rules:>7}  {name:<13}{library:>12.0}{model:>12.0}{ratio:>8.2}");
+    }
+}
+
 fn main() {
     let seed = std::env::args().nth(1).map_or(1, |text| text.parse().expect("a number as seed"));
     println!("seed {seed}");
     println!(
-        "{:>3}{:>6}{:>7}  {:<12}{:>12}{:>12}{:>8}",
+        "{:>3}{:>6}{:>7}  {:<13}{:>12}{:>12}{:>8}",
         "n", "rows", "rules", "call", "library ns", "model ns", "ratio"
     );
     let mut random = Random::new(seed);
     for n in [64, 16] {
         for (rows, rules) in SIZES {
-            for (name, state, call, code) in calls(&mut random, n, rows, rules) {
-                let mut left = [state.clone(), state.clone()];
-                let answers = [by_library(&mut left[0], call), by_model(&mut left[1], call)];
-                assert_eq!(answers[0], answers[1], "{name}");
-                assert_eq!(left[0], left[1], "{name}");
-                assert_eq!(answers[0].code, code, "{name}");
-
-                let [library, model] = medians(&state, call, [by_library, by_model]);
-                let ratio = library / model;
-                println!("{n:>3}{rows:>6}{rules:>7}  {name:<12}{library:>12.0}{model:>12.0}{ratio:>8.2}");
-            }
+            measure(n, rows, rules, calls(&mut random, n, rows, rules));
         }
     }
+    println!("half of the marks unknown");
+    let (n, (rows, rules)) = (64, UNKNOWN_SIZE);
+    measure(n, rows, rules, implied_calls(&mut random, n, rows, rules));
 }

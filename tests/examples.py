@@ -124,6 +124,11 @@ def interviews(runs):
     runs.run([other, "--log", log], "", 2, err=f"{log}: was written over another table or background\n")
     runs.run(["examples/tables/triangles", "--log", runs.path("notes", "hello\n")], "", 2, part="notes: is no log of this table\n")
 
+    # The roof's log mark is unknown; since raw means log, it has it, and nothing is asked that it refutes by that.
+    asked = "Does every row with raw have log? \n1 rules, 5 rows\nraw -> log\n"
+    assert runs.run(["examples/tables/shots"], "yes\n", 0, err="") == asked
+    assert runs.run(["examples/tables/shots", "--background", runs.path("agreed", "raw -> log\n")], "", 0, err="") == "\n0 rules, 5 rows\n"
+
 
 def refusals(runs):
     unsure = runs.path("unsure", table(["r"], ["a", "b", "c"], ["X?."]))
@@ -132,10 +137,12 @@ def refusals(runs):
     runs.run([unsure, "--background", runs.path("no-arrow", "a, b\n")], "", 2, part="no-arrow, line 1: not a rule")
     runs.run([unsure, "--background", runs.path("against", "a -> b\r\nb -> c\r\n")], "", 1, err=refused(6)
              + "It is row 1 (r): it has a, so by the rules it would have c, which it lacks.\n")
-    why = "It is row 1 (r): it has a, so by the rules it would have c, which it lacks.\n"
-    why += "It is itself a counterexample. If it is right, answer: no XX.\n"
     runs.run([unsure, "--background", rules], "no X.?\n", 1, err=refused(11))
-    runs.run([unsure, "--background", rules], "no ...\nyes\nyes\nyes\nyes\n", 1, part=refused(11) + why)
+    runs.run([unsure, "--background", rules], "no ...\nyes\nyes\n", 0, out="\n2 rules, 2 rows\nc -> a, b\nb -> a\n", err="")
+    both = [runs.path("both", table(["r"], ["a", "b", "c", "d"], ["X??."])), "--background", runs.path("three", "a, b, c -> d\n")]
+    why = "It is row 1 (r): it has a, so by the rules it would have d, which it lacks.\n"
+    why += "It lacks at least one of b, c. If it is right, answer with a dot for each that it lacks: no X??.\n"
+    runs.run(both, "yes\nno X??.\nno X.?.\n", 1, out="\n0 rules, 2 rows, not finished\n", err=refused(11) + why + refused(10))
     full = runs.path("full", table([str(i) for i in range(512)], ["a", "b"], ["??"] * 512))
     runs.run([full], "no .?\n", 1, err=refused(12))
     source = random.Random(1)
@@ -176,6 +183,11 @@ def saves(runs):
         runs.save([runs.path("open", pets.rstrip("\n").replace("\n", end))], "no ..X. shark", 1, saved("shark"))
         runs.save([runs.path("more", pets.replace("\n", end) + end * 3)], "no ..X.", 1, saved(""))
     runs.save([PETS], "no ???. unsure\n", 1, saved("unsure", marks=["???."]), err="")
+    # Marks that the rules imply may stay unknown, and are saved as they were given.
+    fewer, unknown = replies, {".XXX": ".XX?", "X.XX": "X.X?", "XX.X": "XX.?"}
+    for marks, left in unknown.items():
+        fewer = fewer.replace(f"no {marks}\n", f"no {left}\n")
+    runs.save([PETS], fewer, 0, saved(*[""] * 6, marks=[unknown.get(marks, marks) for marks in filed]), out=wanted)
     runs.save([runs.path("none", table([], ["p", "q"], []))], "", 1, table([], ["p", "q"], [], title=""))
     runs.save([runs.path("none", table([], ["p", "q"], []))], "no .?\n", 1, table(["row 1"], ["p", "q"], [".?"], title=""))
     long = "A name has at most 80 bytes.\n"
@@ -201,10 +213,10 @@ def saves(runs):
         runs.run([PETS, "--log", wrong], "", 2, out="", err=f"{wrong}: is no log of this table\n")
 
     # A counterexample is spoken of by its name.
-    none, rules = runs.path("none", table([], ["a", "b", "c"], [])), runs.path("cases", "a, b -> c\n")
+    none, rules = runs.path("none", table([], ["a", "b", "c", "d"], [])), runs.path("cases", "a, b, c -> d\n")
     for name, shown in [(" early", "early"), ("", "the 1. of your counterexamples")]:
-        why = f"It is row 1 ({shown}): it has a, so by the rules it would have c, which it lacks.\n"
-        runs.run([none, "--background", rules], f"no X?.{name}\nno ...\nyes\nyes\nyes\n", 1, part=refused(11) + why)
+        why = f"It is row 1 ({shown}): it has a, so by the rules it would have d, which it lacks.\n"
+        runs.run([none, "--background", rules], f"no X??.{name}\nyes\n", 1, part=refused(11) + why)
 
     # Over the table itself, and where nothing can be written.
     path = runs.path("own", pets)
@@ -262,7 +274,7 @@ def listings(runs):
             assert runs.run([path, "--nearly", str(percent)], replies, 1, err="") == shown + rest, (path, percent, shown)
 
     # The tables of the examples, and two lines worked out by hand.
-    for name in ["pets", "quadrilaterals", "recordings", "triangles"]:
+    for name in ["pets", "quadrilaterals", "recordings", "shots", "triangles"]:
         with open(f"examples/tables/{name}") as text:
             lists(f"examples/tables/{name}", text.read(), [0, 50, 60, 99])
     said = runs.run(["--nearly", "80", "examples/tables/recordings"], "", 1)

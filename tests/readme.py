@@ -1,4 +1,4 @@
-"""Holds the README's first screen to what the programs do: the table file, the program's output, the interview, what nearly holds, the refusals in words.
+"""Holds the README's first screen to what the programs do: the table file, the program's output, the interviews, what nearly holds, the refusals in words.
 
     python3 tests/readme.py EXPLORE INTERVIEW NEARLY
 """
@@ -17,6 +17,19 @@ def run(program, arguments, given):
     return subprocess.run([program, *arguments], input=given, capture_output=True, check=True).stdout
 
 
+def named_before(text, line):
+    """The table named last before a line."""
+    return re.findall(r"examples/tables/\w+", text[:text.index(line)])[-1]
+
+
+def holds(interview, table, asked):
+    """Whether an interview over a table with the replies shown says what is shown."""
+    replies = [line.split("? ")[1] for line in asked if "? " in line]
+    held = run(interview, [table], "\n".join(replies).encode()).decode()
+    wanted = "".join(line.split("? ")[0] + "? " if "? " in line else line + "\n" for line in asked)
+    return held.replace("\n", "") == wanted.replace("\n", "")
+
+
 def main():
     explore, interview, nearly = sys.argv[1:]
     with open("README.md") as readme:
@@ -25,10 +38,8 @@ def main():
     with open("examples/tables/quadrilaterals", "rb") as table:
         table = table.read()
     written = run(explore, [], table).decode()
-    asked = next(block for block in shown if block.startswith("Does every row")).splitlines()
-    replies = [line.split("? ")[1] for line in asked if "? " in line]
-    held = run(interview, ["examples/tables/triangles"], "\n".join(replies).encode()).decode()
-    wanted = "".join(line.split("? ")[0] + "? " if "? " in line else line + "\n" for line in asked)
+    dialogues = [block.splitlines() for block in shown if block.startswith("Does every row")]
+    held = all(holds(interview, named_before(text, lines[0]), lines) for lines in dialogues)
     recordings = "examples/tables/recordings"
     with open(recordings, "rb") as given:
         listed = run(nearly, [], given.read()).decode()
@@ -43,7 +54,7 @@ def main():
         for name, fine in [
             ("the table file", table.decode() in shown),
             ("its output", written in shown),
-            ("the interview", held.replace("\n", "") == wanted.replace("\n", "")),
+            ("the interviews", dialogues and held),
             ("what nearly always comes", listed in shown),
             ("what the interview shows first", shown_first in shown),
             ("the refusals in words", rows in text),

@@ -72,12 +72,12 @@ impl Tally {
         let seen = self.counts.keys().filter(|(kind, _)| kinds.contains(kind));
         let codes: BTreeSet<u64> = seen.map(|&(_, code)| code).collect();
         print!("{:>6}", "code");
-        kinds.iter().for_each(|kind| print!("{kind:>15}"));
-        println!("{:>15}", "all");
+        kinds.iter().for_each(|kind| print!("{kind:>16}"));
+        println!("{:>16}", "all");
         let line = |head: &str, counts: Vec<u64>| {
             print!("{head:>6}");
-            counts.iter().for_each(|count| print!("{count:>15}"));
-            println!("{:>15}", counts.iter().sum::<u64>());
+            counts.iter().for_each(|count| print!("{count:>16}"));
+            println!("{:>16}", counts.iter().sum::<u64>());
         };
         for &code in &codes {
             line(&code.to_string(), kinds.iter().map(|kind| self.of(kind, code)).collect());
@@ -111,6 +111,10 @@ fn main() -> ExitCode {
         // SAFETY: the handler only reports and ends the program.
         unsafe { signal(number, crashed) };
     }
+    if let Err(report) = sessions::check_marked() {
+        println!("a marked case has another result\n{report}");
+        return ExitCode::FAILURE;
+    }
     let mut tally = Tally { counts: BTreeMap::new(), loud: count == 1 };
     for number in 0..count {
         let seed = seed.wrapping_add(number);
@@ -127,11 +131,12 @@ fn main() -> ExitCode {
         }
     }
 
-    for kinds in [sessions::KINDS, files::KINDS, listings::KINDS] {
+    let tables = [sessions::KINDS, sessions::IMPLIED, files::KINDS, listings::KINDS];
+    for kinds in tables {
         let kinds: Vec<&str> = kinds.iter().map(|&(kind, _)| kind).collect();
         tally.print(&kinds);
     }
-    let expected = [sessions::KINDS, files::KINDS, listings::KINDS].into_iter().flatten();
+    let expected = tables.into_iter().flatten();
     let rare: Vec<_> = expected
         .flat_map(|&(kind, codes)| codes.iter().map(move |&code| (kind, code)))
         .filter(|&(kind, code)| tally.of(kind, code) < OFTEN)

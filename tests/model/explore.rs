@@ -19,6 +19,7 @@ struct Places {
     rules: usize,
 }
 
+/// A complete row that refutes no rule in force has and lacks what is written of it: no marks are implied here.
 fn interview(n: usize, table: &[Pair], places: Places, mut line: impl FnMut(&[u8])) -> Result<(), Refusal> {
     let mut text = Vec::new();
     let mut rows: Vec<Pair> = Vec::new();

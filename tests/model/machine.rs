@@ -1,5 +1,5 @@
 //! The plain machine of document 01 ("The interview", refusals 1 to 12): every call of a session over lent words of any
-//! length and content. A refused call changes nothing.
+//! length and content, with rows having and lacking what their marks imply (request 5/13). A refused call changes nothing.
 
 use crate::sets::{self, Pair};
 
@@ -127,7 +127,7 @@ fn check_session(record: &Record, lent: &Lent, asked: &[u64]) -> Result<Held, An
 impl Held {
     /// The premise and conclusion that a step would ask about, if it would ask.
     fn question(&self, current: u64) -> Option<Pair> {
-        let reach = sets::reach(&self.rows, self.n, current);
+        let reach = sets::implied_reach(&self.rules, &self.rows, self.n, current);
         (current != sets::all(self.n) && reach != current).then_some((current, reach & !current))
     }
 
@@ -188,7 +188,7 @@ pub fn no(record: &mut Record, rows: &mut [u64], list: &[u64], background: &[u64
         if (offered.0 | offered.1) & !sets::all(record.n) != 0 || offered.0 & offered.1 != 0 {
             return Err(Answer::refusal(9, 0));
         }
-        if !sets::refutes(offered, question) {
+        if !sets::implied_refutes(&held.rules, held.n, offered, question) {
             return Err(Answer::refusal(10, 0));
         }
         if contradicted(&[offered], &held.rules).is_some() {
@@ -215,7 +215,7 @@ pub fn follows(record: &Record, rows: &[u64], list: &[u64], background: &[u64], 
 pub fn refuted(record: &Record, rows: &[u64], list: &[u64], background: &[u64], rule: Pair) -> Answer {
     settle(|| {
         let held = check_session(record, &Lent { rows, list, background }, &[rule.0, rule.1])?;
-        Ok(match held.rows.iter().position(|&row| sets::refutes(row, rule)) {
+        Ok(match held.rows.iter().position(|&row| sets::implied_refutes(&held.rules, held.n, row, rule)) {
             Some(place) => Answer::new(REFUTED, place as u64, 0),
             None => Answer::new(UNREFUTED, 0, 0),
         })

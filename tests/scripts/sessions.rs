@@ -6,7 +6,7 @@ use crate::library::{
     zundrafl_accept, zundrafl_follows, zundrafl_open_and_replay, zundrafl_open_session, zundrafl_refuted, zundrafl_reject,
     zundrafl_replay, zundrafl_step,
 };
-use crate::machine::{self, ASKED, Answer, CALL_WORDS, FINISHED, MAX_ROW_WORDS, MAX_RULE_WORDS, Record};
+use crate::machine::{self, ASKED, Answer, CALL_WORDS, FINISHED, MAX_ROW_WORDS, MAX_RULE_WORDS, REFUTED, Record};
 use crate::random::Random;
 use crate::sets::{self, Pair};
 use crate::{hex, show};
@@ -23,6 +23,25 @@ pub const KINDS: &[(&str, &[u64])] = &[
     ("open and replay", &[1, 2, 3, 4, 5, 6, 103]),
     ("logged", &[1, 2, 3, 4, 5, 6, 7, 8, 9, 10, 11, 12, 100, 101, 102, 103, 104, 105, 106, 107]),
 ];
+
+/// The calls that the marks as written would answer otherwise, counted again: steps and yeses by their question, nos by
+/// whether the row refutes it, rules by the first row that refutes them. Of the nos once more those whose row is not marked
+/// yes in the whole premise, and those whose row is not marked no in the conclusion, and refutes it all the same.
+pub const IMPLIED: &[(&str, &[u64])] = &[
+    (IMPLIED_STEP, &[101, 102]),
+    (IMPLIED_YES, &[8, 12, 103]),
+    (IMPLIED_NO, &[8, 10, 11, 12, 103]),
+    (IMPLIED_REFUTED, &[105]),
+    (IMPLIED_PREMISE, &[11, 12, 103]),
+    (IMPLIED_LACK, &[11, 103]),
+];
+
+const IMPLIED_STEP: &str = "step implied";
+const IMPLIED_YES: &str = "yes implied";
+const IMPLIED_NO: &str = "no implied";
+const IMPLIED_REFUTED: &str = "refuted implied";
+const IMPLIED_PREMISE: &str = "premise implied";
+const IMPLIED_LACK: &str = "lack implied";
 
 /// No interview of a script has more calls than this.
 const MAX_CALLS: usize = 500;
@@ -181,11 +200,16 @@ fn by_library(state: &State, call: &Call) -> Outcome {
     }
 }
 
+/// What a step asks, with an empty conclusion where it does not.
+fn standing(state: &State) -> Pair {
+    let Answer { code, first, second } = by_model(state, &Call::Step).answer;
+    if code == ASKED { (first, second) } else { (state.record.current, 0) }
+}
+
 /// What a step asks, or what it might ask where it does not.
 fn question(state: &State) -> Pair {
-    let Answer { code, first, second } = by_model(state, &Call::Step).answer;
-    let current = state.record.current;
-    if code == ASKED { (first, second) } else { (current, sets::all(state.record.n) & !current) }
+    let (current, conclusion) = standing(state);
+    (current, if conclusion == 0 { sets::all(state.record.n) & !current } else { conclusion })
 }
 
 fn pairs(words: &[u64], used: usize) -> Vec<Pair> {
@@ -194,6 +218,32 @@ fn pairs(words: &[u64], used: usize) -> Vec<Pair> {
 
 fn in_force(state: &State) -> Vec<Pair> {
     [pairs(&state.background, usize::MAX), pairs(&state.list, state.record.rules)].concat()
+}
+
+/// The marked cases of implied marks, each in the current set {0} with one row in use: n, the background rule, the row, a
+/// reply, and the number that it is refused with, at place 0.
+const MARKED: [(usize, Pair, Pair, Call, u64); 3] = [
+    (3, (0b011, 0b100), (0b001, 0b100), Call::Yes, 8),
+    (3, (0b011, 0b100), (0b001, 0b100), Call::No((0b001, 0b010)), 8),
+    (4, (0b0111, 0b1000), (0b0001, 0b1000), Call::Yes, 11),
+];
+
+pub fn check_marked() -> Result<(), String> {
+    for (n, rule, row, reply, number) in MARKED {
+        let state = State {
+            record: Record { n, rows: 1, rules: 0, current: 0b1 },
+            rows: vec![row.0, row.1, 0, 0],
+            list: vec![0, 0],
+            background: vec![rule.0, rule.1],
+        };
+        for (who, outcome) in [("model", by_model(&state, &reply)), ("library", by_library(&state, &reply))] {
+            if outcome.answer != Answer::refusal(number, 0) || outcome.state != state {
+                let (reply, state, outcome) = (reply.show(), show_state(&state), show_outcome(&outcome));
+                return Err(format!("{reply}\n{state}wanted: refused with {number} at 0\n{who}:\n{outcome}"));
+            }
+        }
+    }
+    Ok(())
 }
 
 struct Script<'a> {
@@ -211,7 +261,7 @@ pub fn play(mut random: Random, tally: &mut Tally) -> Result<(), String> {
         Record { n: random.below(99), rows: random.below(99), rules: random.below(99), current: random.word() };
     let state = State { record, rows: vec![], list: vec![], background: vec![] };
     let mut script = Script { random, tally, state, truth: vec![], played: vec![] };
-    match script.random.below(4) {
+    match script.random.below(5) {
         0 => {
             script.make_soup();
             script.drive(6, 2, false)
@@ -219,6 +269,10 @@ pub fn play(mut random: Random, tally: &mut Tally) -> Result<(), String> {
         1 => {
             script.make_middle();
             script.drive(12, 2, true)
+        }
+        2 => {
+            script.make_unsure();
+            script.drive(20, 2, true)
         }
         _ => {
             let (noise, honest) = (3 + script.random.below(40), script.random.below(2) == 0);
@@ -270,8 +324,12 @@ impl Script<'_> {
         let count = self.random.below(if n > 6 { 6 } else { 16 });
         self.truth = (0..count).map(|_| self.complete_row(all)).collect();
         let mut background = vec![];
-        for _ in 0..self.random.below(4) {
-            let premise = self.random.subset(all);
+        for _ in 0..self.random.below(5) {
+            // Few properties are had by many rows.
+            let premise = match self.random.below(2) {
+                0 => self.random.member(all) | self.random.member(all),
+                _ => self.random.subset(all),
+            };
             let conclusion = self.random.subset(sets::reach(&self.truth, n, premise));
             background.push((premise, conclusion));
         }
@@ -308,7 +366,38 @@ impl Script<'_> {
         let closed = |random: &mut Random| sets::closure(&rules, random.subset(all) & random.subset(all));
         self.truth = (0..rows).map(|_| closed(&mut self.random)).map(|yes| (yes, all & !yes)).collect();
         let current = closed(&mut self.random);
-        let rows: Vec<Pair> = self.truth.iter().map(|&(yes, no)| (yes, self.random.subset(no))).collect();
+        // In half of the interviews yes marks are unknown, too.
+        let known = if self.chance(2) { all } else { 0 };
+        let marks = |&(yes, no): &Pair| (yes & known | self.random.subset(yes), self.random.subset(no));
+        let rows: Vec<Pair> = self.truth.iter().map(marks).collect();
+        self.state.record = Record { n, rows: rows.len(), rules: list, current };
+        let (row_places, list_places) = (self.places(), self.places());
+        self.state.rows = self.lent(&rows, row_places, MAX_ROW_WORDS);
+        self.state.list = self.lent(&rules[..list], list_places, MAX_RULE_WORDS);
+        self.state.background = self.lent(&rules[list..], 0, MAX_RULE_WORDS);
+    }
+
+    /// Some members of a set, up to three.
+    fn few(&mut self, of: u64) -> u64 {
+        (0..1 + self.random.below(3)).fold(0, |set, _| set | self.random.member(of))
+    }
+
+    /// The middle of a short interview with few marks: rows have and lack what the rules imply.
+    fn make_unsure(&mut self) {
+        let n = 3 + self.random.below(6);
+        let all = sets::all(n);
+        let rules: Vec<Pair> = (0..1 + self.random.below(6)).map(|_| (self.few(all), self.few(all))).collect();
+        let closed = |random: &mut Random| sets::closure(&rules, random.subset(all));
+        let count = 1 + self.random.below(6);
+        self.truth = (0..count).map(|_| closed(&mut self.random)).map(|yes| (yes, all & !yes)).collect();
+        let marked = self.random.below(count + 1);
+        let rows: Vec<Pair> = (0..marked).map(|i| (self.few(self.truth[i].0), self.few(self.truth[i].1))).collect();
+        // Often a set that some row has.
+        let current = match rows.last() {
+            Some(row) if self.chance(2) => sets::closure(&rules, self.random.subset(row.0)),
+            _ => closed(&mut self.random),
+        };
+        let list = self.random.below(rules.len() + 1);
         self.state.record = Record { n, rows: rows.len(), rules: list, current };
         let (row_places, list_places) = (self.places(), self.places());
         self.state.rows = self.lent(&rows, row_places, MAX_ROW_WORDS);
@@ -353,6 +442,7 @@ impl Script<'_> {
             return Err(self.report(&state, &call, &expected, &found));
         }
         self.tally.add(call.kind(), expected.answer.code);
+        self.tally_implied(&state, &call, &expected.answer);
         if matches!(call, Call::Replay { .. }) && expected.answer == Answer::accepted() {
             let count = expected.calls.len() / CALL_WORDS;
             for answer in expected.answers.chunks_exact(CALL_WORDS).take(count) {
@@ -361,6 +451,49 @@ impl Script<'_> {
         }
         self.played.push((call, expected.answer));
         Ok(expected)
+    }
+
+    /// Counts an answer again if the marks as written would not give it.
+    fn tally_implied(&mut self, state: &State, call: &Call, answer: &Answer) {
+        let code = answer.code;
+        if code < 8 {
+            return;
+        }
+        let Record { n, rows, current, .. } = state.record;
+        let rows = pairs(&state.rows, rows);
+        let written = (current, sets::reach(&rows, n, current) & !current);
+        match *call {
+            Call::Step | Call::Yes => {
+                let kind = if matches!(call, Call::Step) { IMPLIED_STEP } else { IMPLIED_YES };
+                if standing(state) != written {
+                    self.tally.add(kind, code);
+                }
+            }
+            Call::No(row) => {
+                let by_written = match written.1 {
+                    0 => 8,
+                    _ if sets::refutes(row, written) => 11,
+                    _ => 10,
+                };
+                // 9 is the same by both; all that comes after 10 has passed it.
+                if code != 9 && code.min(11) != by_written {
+                    self.tally.add(IMPLIED_NO, code);
+                }
+                if code > 10 && current & !row.0 != 0 {
+                    self.tally.add(IMPLIED_PREMISE, code);
+                }
+                if code > 10 && standing(state).1 & row.1 == 0 {
+                    self.tally.add(IMPLIED_LACK, code);
+                }
+            }
+            Call::Refuted(rule) => {
+                let first = rows.iter().position(|&row| sets::refutes(row, rule));
+                if code == REFUTED && first.map(|row| row as u64) != Some(answer.first) {
+                    self.tally.add(IMPLIED_REFUTED, code);
+                }
+            }
+            _ => {}
+        }
     }
 
     fn report(&self, state: &State, call: &Call, expected: &Outcome, found: &Outcome) -> String {
@@ -389,7 +522,12 @@ impl Script<'_> {
                 return self.disturb(honest);
             }
             if stepped.answer.code == ASKED {
-                let reply = self.truthful((stepped.answer.first, stepped.answer.second));
+                if self.chance(4) {
+                    // Another reply, of which nothing is kept.
+                    let reply = if self.chance(2) { Call::Yes } else { Call::No(self.any_row(&self.state.clone())) };
+                    self.call(self.state.clone(), reply)?;
+                }
+                let reply = self.truthful(&self.state.clone(), (stepped.answer.first, stepped.answer.second));
                 let replied = self.call(self.state.clone(), reply)?;
                 self.state = replied.state;
                 if replied.answer != Answer::accepted() {
@@ -401,14 +539,29 @@ impl Script<'_> {
     }
 
     /// The reply of the complete table: the marks that refute, and some of the other marks.
-    fn truthful(&mut self, question: Pair) -> Call {
+    fn truthful(&mut self, state: &State, question: Pair) -> Call {
         match self.truth.iter().find(|&&row| sets::refutes(row, question)) {
             Some(&(yes, no)) => {
                 let lacking = self.random.member(no & question.1);
-                Call::No((question.0 | self.random.subset(yes), lacking | self.random.subset(no)))
+                let row = (question.0 | self.random.subset(yes), lacking | self.random.subset(no));
+                Call::No(if self.chance(2) { self.thinned(state, question, row) } else { row })
             }
             None => Call::Yes,
         }
+    }
+
+    /// A row with some marks left out without which it refutes the question, by the rules or by its other marks.
+    fn thinned(&mut self, state: &State, question: Pair, mut row: Pair) -> Pair {
+        let rules = in_force(state);
+        for _ in 0..4 {
+            let marks = if self.chance(2) { question.0 & row.0 } else { row.0 | row.1 };
+            let left_out = self.random.member(marks);
+            let thinner = (row.0 & !left_out, row.1 & !left_out);
+            if sets::implied_refutes(&rules, state.record.n, thinner, question) {
+                row = thinner;
+            }
+        }
+        row
     }
 
     /// Any call, from the state or from a damaged copy.
@@ -456,24 +609,43 @@ impl Script<'_> {
         }
     }
 
-    /// A row that refutes the question, or one with a fault.
+    /// A row that refutes the question, by its marks or by the rules, or one with a fault.
     fn any_row(&mut self, state: &State) -> Pair {
+        let row = self.row_with_marks(state);
+        if self.chance(2) { self.thinned(state, question(state), row) } else { row }
+    }
+
+    /// A row with marks that refute the question, or with a fault.
+    fn row_with_marks(&mut self, state: &State) -> Pair {
         let all = sets::all(state.record.n);
         let (premise, conclusion) = question(state);
         let lacking = self.random.member(conclusion);
         let more = if self.chance(2) { 0 } else { self.random.subset(all & !lacking) };
         let yes = premise | more;
         let no = lacking | self.random.subset(all & !yes);
-        match self.random.below(9) {
+        match self.random.below(12) {
             0 => (yes, no | self.random.member(yes)),
             1 => (yes | self.random.member(!all), no),
             2 => (yes, no | self.random.member(!all)),
             3 => (yes & !self.random.member(premise), no),
             4 => (yes, no & !conclusion),
             5 => {
-                let (premise, conclusion) = self.any_in_force(state);
-                let yes = yes | premise;
-                (yes, (no | conclusion) & !yes)
+                // Contradicts a rule in force.
+                let rule = self.any_in_force(state);
+                let yes = yes | rule.0;
+                (yes, (no | rule.1) & !yes)
+            }
+            6 => {
+                // The same with nothing marked no but what the rule says.
+                let rule = self.any_in_force(state);
+                let yes = premise | rule.0;
+                (yes, rule.1 & !yes & !conclusion)
+            }
+            7 | 8 => {
+                // Lacks something of the conclusion, because with it a rule in force would be contradicted.
+                let rule = self.any_in_force(state);
+                let yes = premise | rule.0 & !self.random.member(conclusion & rule.0);
+                (yes, rule.1 & !yes & !conclusion)
             }
             _ => (yes, no),
         }
@@ -500,6 +672,12 @@ impl Script<'_> {
                 (self.random.subset(yes), no)
             }
             5 => (premise, sets::closure(&in_force(state), premise)),
+            6 if state.record.rows > 0 && state.rows.len() > 1 => {
+                // Often refuted by the rules.
+                let rows = pairs(&state.rows, state.record.rows);
+                let yes = rows[self.random.below(rows.len())].0;
+                (self.random.subset(sets::closure(&in_force(state), yes)), self.random.member(all & !yes))
+            }
             _ => (premise, conclusion),
         }
     }
@@ -518,7 +696,7 @@ impl Script<'_> {
                 3 => Call::Yes,
                 4 => Call::Step,
                 _ => match by_model(&state, &Call::Step).answer {
-                    Answer { code: ASKED, first, second } => self.truthful((first, second)),
+                    Answer { code: ASKED, first, second } => self.truthful(&state, (first, second)),
                     _ => Call::Step,
                 },
             };
