@@ -126,8 +126,8 @@ def interviews(runs):
 
     # The roof's log mark is unknown; since raw means log, it has it, and nothing is asked that it refutes by that.
     asked = "Does every row with raw have log? \n1 rules, 5 rows\nraw -> log\n"
-    assert runs.run(["examples/tables/shots"], "yes\n", 0, err="") == asked
-    assert runs.run(["examples/tables/shots", "--background", runs.path("agreed", "raw -> log\n")], "", 0, err="") == "\n0 rules, 5 rows\n"
+    assert runs.run(["examples/tables/raw_recordings"], "yes\n", 0, err="") == asked
+    assert runs.run(["examples/tables/raw_recordings", "--background", runs.path("agreed", "raw -> log\n")], "", 0, err="") == "\n0 rules, 5 rows\n"
 
 
 def refusals(runs):
@@ -274,7 +274,7 @@ def listings(runs):
             assert runs.run([path, "--nearly", str(percent)], replies, 1, err="") == shown + rest, (path, percent, shown)
 
     # The tables of the examples, and two lines worked out by hand.
-    for name in ["pets", "quadrilaterals", "recordings", "shots", "triangles"]:
+    for name in ["pets", "quadrilaterals", "raw_recordings", "recordings", "triangles"]:
         with open(f"examples/tables/{name}") as text:
             lists(f"examples/tables/{name}", text.read(), [0, 50, 60, 99])
     said = runs.run(["--nearly", "80", "examples/tables/recordings"], "", 1)

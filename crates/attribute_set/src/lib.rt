@@ -65,7 +65,7 @@ pub fn smallest_of(set: u64) -> u64
     ensures { λ r. ⌜ Smallest set r ⌝ }
 {
     if set == 0 {
-        return 0;
+        return set;
     }
     set - (set & (set - 1))
 }

@@ -42,7 +42,15 @@ fn narrow_by(
     let mut left = x;
     let mut i = 0;
     while i < count {
-        left = cut_by(background, list, rules, rows[i * 2], rows[i * 2 + 1], set, left);
+        left = cut_by(
+            background,
+            list,
+            rules,
+            rows[i * 2],
+            rows[i * 2 + 1],
+            set,
+            left,
+        );
         i += 1;
     }
     left

@@ -8,7 +8,7 @@ use Rattle.attribute_set.proofs.smallest_of.Statement.{statement}
 use Rattle.attribute_set.proofs.smallest_of.Tie as tie
 
 returns : tie.Need-returns
-returns c = subst (λ x. Smallest x 0) (sym (c .if1 .taken)) smallest-none
+returns c = subst (λ x. Smallest x x) (sym (c .if1 .taken)) smallest-none
 
 returns-2 : tie.Need-returns-2
 returns-2 c = smallest-is (c .before .args .set) (c .if1 .left)

@@ -1,6 +1,5 @@
 -- The object has not the premise, or it contradicts and lacks everything, or what it lacks is told.
 use mathlib.Core.Path.{_≡_, sym, ap, subst, _∙_}
-use mathlib.Core.Bool.{true}
 use mathlib.Core.List.{List}
 use Prim.Native.Nat.{ℕ}
 use lib.Bits.{bitAnd}

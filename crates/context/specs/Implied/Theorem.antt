@@ -1,9 +1,9 @@
 -- Implied marks mean what complete objects have: an object that does not contradict has what every completion has and lacks what none
 -- has; a complete one has and lacks what is written; one that contradicts lacks all.
-use mathlib.Core.Path.{_≡_, refl, sym, subst, _∙_}
+use mathlib.Core.Path.{_≡_, refl, sym, subst}
 use mathlib.Core.Logic.{_⊎_, inl, inr, _↔_, ⊎-elim}
 use mathlib.Core.Bool.{Bool, true, false}
-use mathlib.Core.List.{List, List·Memᴰ}
+use mathlib.Core.List.{List}
 use Prim.Native.Nat.{ℕ, _^_, _<_, _≤_}
 use native.Mathlib.Omega.{arith}
 use lib.Bits.{bitOr}
@@ -17,7 +17,7 @@ use Rattle.implication.specs.Closure.{closure}
 use Rattle.implication.specs.Closure.Laws.{closure-least, closure-inside, full-closed}
 use Rattle.context.specs.Objects.{Object, wordAttributes, has, lacks, contradicts}
 use Rattle.context.specs.Objects.Laws.{has-least, has-apart, lacks-below, lacks-marked, meets-lacks, apart-lacks, consistent-apart, contradicting-lacks}
-use Rattle.context.specs.Tables.{Complete, completed, Extends}
+use Rattle.context.specs.Tables.{Complete, completed}
 use Rattle.context.specs.Tables.Laws.{completed-complete, completes-set, complete-strip}
 use Rattle.context.specs.Implied.{Completion, Consistent, Implied}
 

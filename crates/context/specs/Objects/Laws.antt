@@ -1,9 +1,9 @@
 -- What an object has and lacks, and what the tests of an object say of members. An object refutes an implication just if it has the
 -- premise and lacks some attribute of the conclusion. All else reads `has`, `lacks`, `refutes` and `refutesWritten` through these laws.
-use mathlib.Core.Path.{_≡_, refl, sym, ap, subst, _∙_}
+use mathlib.Core.Path.{_≡_, refl, sym, ap, _∙_}
 use mathlib.Core.Bool.{Bool, true, false, true≢false, false≢true}
-use mathlib.Core.List.{List, _∷_, _++_}
-use Prim.Native.Nat.{ℕ, suc, _/_, _^_, _≤_, _<_, min}
+use mathlib.Core.List.{List, _++_}
+use Prim.Native.Nat.{ℕ, _/_, _^_, _≤_, _<_, min}
 use native.Mathlib.Omega.{arith}
 use lib.ListN.{length}
 use lib.Bits.{bitAnd, bitOr}
@@ -13,15 +13,14 @@ use Rattle.theory.specs.Implications.{Implication, Closed, Least}
 use Rattle.attribute_set.specs.Sets.{digit, In, Sub, Apart, meets}
 use Rattle.attribute_set.specs.Sets.Laws.{digit-none, sub-inside, not-inside, sub-dec, meets-some, some-meets, meets-apart, apart-meets, apart-sub, sub-refl, sub-trans, sub-antisym, none-sub, or-left, or-right, or-least}
 use Rattle.attribute_set.specs.Lectic.Laws.{single-at, single-sub}
-use Rattle.attribute_set.specs.Passing.{passing}
 use Rattle.attribute_set.specs.Passing.Laws.{passing-in, passing-passes, passing-below}
 use Rattle.attribute_set.specs.Words.{words}
 use Rattle.implication.specs.Closure.{closure}
-use Rattle.implication.specs.Closure.Laws.{closure-least, closure-mono, closure-more, closure-between}
+use Rattle.implication.specs.Closure.Laws.{closure-least, closure-mono, closure-more}
 use Rattle.implication.specs.Pairs.Laws.{length-pairs, pairs-whole}
 use Rattle.context.specs.Places.{lowest}
-use Rattle.context.specs.Places.Laws.{lowest-found, lowest-passed, lowest-append-found, lowest-append-none}
-use Rattle.context.specs.Objects.{Object, object, objectsOf, wordAttributes, has, excludes, lacks, refutes, firstRefuting, refutesWritten, firstWritten, markedTwice, contradicts}
+use Rattle.context.specs.Places.Laws.{lowest-append-found, lowest-append-none}
+use Rattle.context.specs.Objects.{Object, object, objectsOf, wordAttributes, has, excludes, lacks, refutes, refutesWritten, markedTwice, contradicts}
 
 -- ---- what an object has and lacks
 

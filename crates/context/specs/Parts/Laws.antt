@@ -9,11 +9,10 @@ use native.Mathlib.Omega.{arith}
 use lib.Bits.{bitAnd, bitOr, and-le-l}
 use lib.Dec.{eqb}
 use lib.Pow.{pow-pos}
-use borrow.Author.Tests.{eq-eqb}
 use Rattle.theory.specs.Implications.{Implication}
-use Rattle.attribute_set.specs.Sets.{digit, In, Sub, Apart, full, without, inside, meets}
-use Rattle.attribute_set.specs.Sets.Laws.{digit-lt, digit-or, digit-and, digit-without, digit-none, digit-sub, ext, member-cases, member-lt, none-sub, sub-le, sub→and, sub-refl, sub-trans, sub-antisym, or-left, or-right, or-least, and-left, and-right, and-great, without-sub, apart-sub, and-apart, meets-apart, apart-meets, some-meets, some-member, sub-inside, not-inside, sub-dec, lt-sub-full}
-use Rattle.attribute_set.specs.Lectic.Laws.{single-at, single-only, single-sub}
+use Rattle.attribute_set.specs.Sets.{digit, In, Sub, Apart, without, meets}
+use Rattle.attribute_set.specs.Sets.Laws.{digit-lt, digit-or, digit-and, digit-without, digit-none, digit-sub, ext, member-cases, member-lt, sub-le, sub→and, sub-refl, sub-trans, sub-antisym, or-left, or-right, or-least, and-left, and-right, and-great, without-sub, apart-sub, and-apart, meets-apart, apart-meets, some-meets, some-member, sub-inside, not-inside, sub-dec, lt-sub-full}
+use Rattle.attribute_set.specs.Lectic.Laws.{single-sub}
 use Rattle.implication.specs.Closure.{closure}
 use Rattle.implication.specs.Closure.Laws.{closure-least}
 use Rattle.implication.specs.Until.{CloseUntil}

@@ -6,7 +6,7 @@ use Rattle.session.specs.declared.Refusal.{Refusal}
 use Rattle.implication.specs.Pairs.Laws.{length-pairs}
 use Rattle.implication.specs.Closure.{implication}
 use Rattle.context.specs.Objects.{object}
-use Rattle.machine.specs.Checks.{State, force}
+use Rattle.machine.specs.Checks.{State}
 use Rattle.machine.specs.Machine.{Call, turn, refute, refutedAt, refused, checksOf, performed, perform}
 use Rattle.machine.specs.Machine.Laws.{perform-accepted, perform-refused}
 use Rattle.size_checks.specs.declared.Verdict.the-variants.{Refused}

@@ -2,7 +2,7 @@
 -- one by written marks, and so are the question and all that reads it; where one of them fails, both refuse alike.
 use mathlib.Core.Path.{_≡_, refl, sym, ap, ap₂, _∙_}
 use mathlib.Core.Bool.{Bool, true, false, not, _||_}
-use mathlib.Core.List.{List, [], _∷_, _++_, append-nil, List·Memᴰ}
+use mathlib.Core.List.{List, [], _∷_, _++_, append-nil}
 use mathlib.Core.Option.{Option, none, some}
 use Prim.Native.Nat.{ℕ, _/_, _≤_}
 use lib.ListN.{length}
@@ -16,11 +16,11 @@ use Rattle.context.specs.Places.Laws.{lowest-same}
 use Rattle.context.specs.Objects.{Object, wordAttributes, refutes, firstRefuting, refutesWritten, firstWritten, markedTwice, contradicts}
 use Rattle.context.specs.Tables.{Complete}
 use Rattle.session.specs.declared.Refusal.{Refusal}
-use Rattle.written_marks.specs.Written.Laws.{Settled, refutes-written, reach-written}
-use Rattle.machine.specs.Checks.{State, force, reachOf, Standing, whole, tight, open-question, standing, questionStands, question, withQuestion, Check, check, firstFailing, strangeObject, sessionChecks, yesChecks, noChecks}
-use Rattle.machine.specs.Checks.Laws.{passed, passed-append, failing-first, Valid, valid, checked-small}
+use Rattle.written_marks.specs.Written.Laws.{refutes-written, reach-written}
+use Rattle.machine.specs.Checks.{State, force, reachOf, Standing, whole, tight, open-question, standing, questionStands, question, Check, check, firstFailing, strangeObject, sessionChecks, yesChecks, noChecks}
+use Rattle.machine.specs.Checks.Laws.{passed, failing-first, Valid, valid, checked-small}
 use Rattle.machine.specs.Machine.{Call, step, accept, reject, follow, refute, finished, moved, asked, taken, refused, Turn, turn, afterMove, agreeing, refutedAt, performStep, performed, checksOf, perform}
-use Rattle.written_machine.specs.Reading.{writtenReach, writtenStanding, writtenStands, writtenQuestion, withWritten, writtenYes, writtenNo, writtenStep, writtenPerformed, writtenChecks, writtenPerform}
+use Rattle.written_machine.specs.Reading.{writtenReach, writtenStanding, writtenStands, writtenQuestion, writtenYes, writtenNo, writtenStep, writtenPerformed, writtenChecks, writtenPerform}
 use Rattle.written_machine.specs.Reading.Unchanged.{OffersComplete, Unchanged}
 
 module _ (s : State) (complete : All (Complete (s .n)) (s .rows)) where
