@@ -14,15 +14,15 @@ use Rattle.context.specs.Objects.{Object, objectsOf, has, lacks, firstRe
 pub mod Laws
 
 -- a lent slice of words, as a call finds it and as it leaves it
-abbrev pub Slice : Type 0
-Slice = Both (RefT (List ℕ)) (RefT (List ℕ))
+abbrev pub Words : Type 0
+Words = Both (RefT (List ℕ)) (RefT (List ℕ))
 
 -- the implications in force in the lent words: all of the background, the first so many of the list
-abbrev pub lentForce : Slice → Slice → ℕ → List (Implication ℕ)
+abbrev pub lentForce : Words → Words → ℕ → List (Implication ℕ)
 lentForce background list rules = inForce (now (background .entry)) (now (list .entry)) rules
 
 -- k is the place of the first of so many lent objects that refutes r where these are in force
-abbrev pub FirstRefuting : Slice → Slice → ℕ → Slice → ℕ → Implication ℕ → ℕ → Type 0
+abbrev pub FirstRefuting : Words → Words → ℕ → Words → ℕ → Implication ℕ → ℕ → Type 0
 FirstRefuting background list rules rows count r k = k ≡ firstRefuting (lentForce background list rules) (objectsOf count (now (rows .entry))) r
 
 -- the closure of an object's yes marks with x, where it does not meet its no marks; else nothing

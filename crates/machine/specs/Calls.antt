@@ -10,6 +10,7 @@ use lib.ListN.{length, set}
 use Rattle.session.specs.declared.Session.{Session}
 use Rattle.implication.specs.Closure.{implicationsOf, allImplications}
 use Rattle.context.specs.Objects.{objectsOf}
+pub use Rattle.context.specs.Parts.{Words}
 use Rattle.machine.specs.Checks.{State, question}
 use Rattle.machine.specs.Machine.{Call, step, accept, reject, follow, refute, Answer, finished, moved, asked, taken, followed, refuted, unrefuted, refused, perform, Opening, opening}
 pub mod Laws
@@ -26,10 +27,6 @@ stateOf s rows list background = record {
   list = implicationsOf (s .rules) list;
   current = s .current;
 }
-
--- a lent slice of words, as a call finds it and as it leaves it
-abbrev pub Words : Type 0
-Words = Both (RefT (List ℕ)) (RefT (List ℕ))
 
 -- a lent record, at the same two moments
 abbrev pub Record : Type 0

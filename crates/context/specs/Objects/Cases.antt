@@ -23,6 +23,9 @@ pub record Cases : Type 0 where
   pub lacked : lacks (implication 1 2 ∷ []) (object 0 2) ≡ 3
   -- {0, 1} → {2}: a row with 0 that lacks 2 lacks 1
   pub lacked-with-a-yes : lacks (implication 3 4 ∷ []) (object 1 4) ≡ 6
+  -- so such a row refutes {0} → {1}; and under {0} → {1} a row with 0 that lacks 2 refutes {1} → {2}
+  pub by-what-it-lacks : refutes (implication 3 4 ∷ []) (object 1 4) (implication 1 2) ≡ true
+  pub by-what-it-has : refutes (implication 1 2 ∷ []) (object 1 4) (implication 2 4) ≡ true
   -- {2} → {1}: a row that lacks 2 does not lack 1: the closure of the no marks does not count
   pub of-no-marks : lacks (implication 4 2 ∷ []) (object 1 4) ≡ 4
   -- a row that contradicts lacks every attribute of a word
@@ -40,6 +43,8 @@ cases = record {
   had = refl;
   lacked = refl;
   lacked-with-a-yes = refl;
+  by-what-it-lacks = refl;
+  by-what-it-has = refl;
   of-no-marks = refl;
   contradicting = refl;
 }

@@ -98,7 +98,7 @@ agreed-all t (agreed q ∷ rs) h = all-cons (h (agreed q) (List·Memᴰ·head re
 agreed-all t (offered o ∷ rs) h = agreed-all t rs (λ r m. h r (List·Memᴰ·tail m))
 
 -- an object of which a table that agrees with the implications in force has a completion refutes nothing that holds in the table
-pub unrefuted-by : (n : ℕ) (t : List Object) (rs : List (Implication ℕ)) → Table n t → All (OverM n) rs → All (AgreesImplication t) rs
+unrefuted-by : (n : ℕ) (t : List Object) (rs : List (Implication ℕ)) → Table n t → All (OverM n) rs → All (AgreesImplication t) rs
     → (o : Object) (r : Implication ℕ) → OverM n r → AgreesObject t o → AgreesImplication t r → refutes rs o r ≡ false
 unrefuted-by n t rs table over agrees o r i a h = go (refutes rs o r) refl
   where
