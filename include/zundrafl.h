@@ -23,7 +23,7 @@
 extern "C" {
 #endif
 
-enum { ZUNDRAFL_VERSION_MAJOR = 1, ZUNDRAFL_VERSION_MINOR = 2 }; /* minor: something was added; major: something was changed */
+enum { ZUNDRAFL_VERSION_MAJOR = 2, ZUNDRAFL_VERSION_MINOR = 0 }; /* minor: something was added; major: something was changed */
 
 enum {
     ZUNDRAFL_MOST_ATTRIBUTES = 64,
@@ -103,6 +103,10 @@ typedef struct {
  *  2 a number of words is odd or above its limit         6 row `place` contradicts the rules in force
  *  3 more rows or rules in use than words for them       7 the current set is not closed
  *  4 an attribute outside the n
+ *
+ * Under the rules in force, background and list, a row counts as having the closure of its yes marks, and as lacking each attribute whose
+ * addition to its yes marks gives a closure that meets its no marks. It refutes a rule if it so has the whole premise and lacks some of
+ * the conclusion. The words keep the written marks, and 5, 6, 9 and 11 read those.
  */
 
 /* Opens a session with the first `used` rows: an empty list, the closure of the empty set. Writes *session. 1 to 6. */
@@ -118,9 +122,9 @@ void zundrafl_step(zundrafl_session *session, const uint64_t *rows, size_t row_w
 void zundrafl_accept(zundrafl_session *session, const uint64_t *rows, size_t row_words, uint64_t *list, size_t list_words,
                      const uint64_t *background, size_t background_words, zundrafl_answer *answer);
 
-/* No to the standing question, with a row that refutes it: writes it as the next row, and *session. 1 to 8; 9 the row has an
- * attribute outside the n or marks one both ways; 10 it does not refute the question; 11 it contradicts the rules in force; 12 no
- * place for a row. */
+/* No to the standing question, with a row that refutes it: writes it as the next row, and *session. What the rules in force imply of the
+ * row may be left unknown. 1 to 8; 9 the row has an attribute outside the n or marks one both ways; 10 it does not refute the question; 11
+ * it contradicts the rules in force; 12 no place for a row. */
 void zundrafl_reject(zundrafl_session *session, uint64_t *rows, size_t row_words, const uint64_t *list, size_t list_words,
                      const uint64_t *background, size_t background_words, uint64_t yes, uint64_t no, zundrafl_answer *answer);
 

@@ -2,8 +2,8 @@
 //! each does, and what it asks of pointers, is said there.
 #![allow(dead_code)]
 
-pub const VERSION_MAJOR: u32 = 1;
-pub const VERSION_MINOR: u32 = 2;
+pub const VERSION_MAJOR: u32 = 2;
+pub const VERSION_MINOR: u32 = 0;
 
 pub const MOST_ATTRIBUTES: usize = 64;
 pub const MOST_ROWS: usize = 512;
