@@ -26,7 +26,7 @@ Finished s = perform s step .answer ≡ finished
 abbrev pub OverM : ℕ → Implication ℕ → Type 0
 OverM n r = Over words (full n) r
 
--- no row refutes r
+-- no row refutes r, by what it has and lacks under the implications in force (02, request 5/13)
 abbrev pub Unrefuted : State → Implication ℕ → Type 0
 Unrefuted s r = All (λ o. refutes (force s) o r ≡ false) (s .rows)
 

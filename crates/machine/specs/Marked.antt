@@ -21,13 +21,13 @@ lent = record { rows = 1024; list = 512; background = 2 }
 abbrev pub stateI : State
 stateI = record { n = 3; lent = lent; background = implication 3 4 ∷ []; rows = object 1 4 ∷ []; list = []; current = 1 }
 
--- n = 4, background {0,1,2} → {3}, a row yes {0}, no {3}, current set {0}
-abbrev pub stateM : State
-stateM = record { n = 4; lent = lent; background = implication 7 8 ∷ []; rows = object 1 8 ∷ []; list = []; current = 1 }
-
 -- n = 1, background {} → {0}
 abbrev pub stateK : State
 stateK = openingState 1 lent (implication 0 1 ∷ []) []
+
+-- n = 4, background {0,1,2} → {3}, a row yes {0}, no {3}, current set {0}
+abbrev pub stateM : State
+stateM = record { n = 4; lent = lent; background = implication 7 8 ∷ []; rows = object 1 8 ∷ []; list = []; current = 1 }
 
 pub record Marked : Type 0 where
   -- no rules, closure of {0}
@@ -52,8 +52,8 @@ pub record Marked : Type 0 where
   -- Finished at the opening
   pub k-opened : opening 1 lent (implication 0 1 ∷ []) [] ≡ opened stateK
   pub k-finished : perform stateK step .answer ≡ finished
+  -- n = 64, no rules: next after {0..62}
+  pub l : next [] 64 (2 ^ 63 - 1) ≡ full 64
   -- the question is {0} → {1, 2}, of which the row lacks neither: a yes is refused with 11, place 0
   pub m-asked : perform stateM step .answer ≡ asked (implication 1 6)
   pub m : perform stateM accept .answer ≡ refused (record { number = 11; place = 0 })
-  -- n = 64, no rules: next after {0..62}
-  pub l : next [] 64 (2 ^ 63 - 1) ≡ full 64

@@ -1,5 +1,5 @@
--- The reach of a set (01, "Properties, rows, rules": M without every property marked no in some row whose yes marks contain
--- P; with no such row it is M). Report 001, section 2.2, has it as the largest conclusion that no example refutes.
+-- The reach of a set (01, "Properties, rows, rules", with the marks of 02, request 5/13: M without every property that some row lacks
+-- which has P; with no such row it is M). Report 001, section 2.2, has it as the largest conclusion that no example refutes.
 use mathlib.Core.Bool.{true, false}
 use mathlib.Core.List.{List, [], _∷_}
 use Prim.Native.Nat.{ℕ}

@@ -71,7 +71,7 @@ pub record Demand3Whole {n : ℕ} {background : List ℕ} (i : Interview n backg
   -- questions of the accepted yes calls in order
   pub all-rows : end-rows i ≡ objectsOf (i .used) (i .rows) ++ offeredIn (replies (opening-state i) (script i))
   pub all-list : end-list i ≡ agreedIn (replies (opening-state i) (script i))
-  -- 3. decided: if a step now answers Finished, a rule over M follows from background and list just if no row refutes it
+  -- 3. decided: if a step now answers Finished, a rule over M follows from background and list just if no row refutes it, by implied marks
   pub decided : Finished (end-state i) → (r : Implication ℕ) → OverM n r
       → (follows (rules i ++ end-list i) r ≡ true) ↔ All (λ o. refutes (rules i ++ end-list i) o r ≡ false) (end-rows i)
   -- 4. shortest, finished or not: a list over M with the same consequences has at least as many rules as the record counts

@@ -28,7 +28,7 @@ marked = record {
   j-reach = refl;
   k-opened = refl;
   k-finished = refl;
+  l = refl;
   m-asked = refl;
   m = refl;
-  l = refl;
 }

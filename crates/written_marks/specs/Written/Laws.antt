@@ -1,21 +1,23 @@
+-- Implied marks take no less away than written ones (`reach-implied`): by them nothing more is asked at a set.
 -- For complete objects that do not contradict the implications in force, refutation and reach are those by written marks
 -- (`refutes-written`, `reach-written`). What is counted past the whole objects of a slice changes no reach.
 use mathlib.Core.Path.{_≡_, refl, ap, ap₂, _∙_}
 use mathlib.Core.Bool.{Bool, true, false, _&&_}
-use mathlib.Core.List.{List, [], _∷_, _++_, List·Memᴰ·head, List·Memᴰ·tail}
-use Prim.Native.Nat.{ℕ, _≤_}
+use mathlib.Core.List.{List, [], _∷_, _++_, List·Memᴰ, List·Memᴰ·head, List·Memᴰ·tail}
+use Prim.Native.Nat.{ℕ, _^_, _≤_, _<_}
 use native.Mathlib.Omega.{arith}
 use Rattle.theory.specs.Lists.{All}
 use Rattle.theory.specs.Implications.{Implication, Over}
-use Rattle.attribute_set.specs.Sets.{digit, Sub, inside, meets, full, without}
-use Rattle.attribute_set.specs.Sets.Laws.{sub-inside, not-inside, sub-refl, sub-antisym, without-sub, without-great, digit-none}
+use Rattle.attribute_set.specs.Sets.{digit, Sub, Apart, inside, meets, full, without}
+use Rattle.attribute_set.specs.Sets.Laws.{sub-inside, not-inside, sub-dec, sub-refl, sub-trans, sub-antisym, apart-sub, without-sub, without-great, digit-none, member-lt}
 use Rattle.attribute_set.specs.Words.{words}
 use Rattle.implication.specs.Pairs.Laws.{pairs-whole}
 use Rattle.context.specs.Objects.{Object, object, objectsOf, wordAttributes, has, lacks, refutes, refutesWritten, contradicts}
-use Rattle.context.specs.Objects.Laws.{whole}
+use Rattle.context.specs.Objects.Laws.{whole, has-least, lacks-marked}
 use Rattle.context.specs.Tables.{Complete}
 use Rattle.context.specs.Implied.Theorem.{implied}
 use Rattle.reach.specs.Reach.{cut, narrow, reach}
+use Rattle.reach.specs.Reach.Laws.{reach-inside, reach-apart}
 use Rattle.written_marks.specs.Written.{cutWritten, narrowWritten, reachWritten}
 
 -- ---- by written marks
@@ -60,6 +62,27 @@ reach-whole n count ws p =
     let t = pairs-whole object (λ o. o .no-marks ≡ 0) (λ a. refl) count ws in
     ap (λ os. narrowWritten p os (full n)) (t .1) ∙ narrow-append p (objectsOf (whole count ws) ws) (t .0) (full n)
     ∙ narrow-idle p (t .0) (t .2) _
+
+-- ---- beside implied marks
+
+-- what each object spares that has p is spared by all
+narrow-great : (p : ℕ) (os : List Object) (x : ℕ) {z : ℕ} → Sub z x → ((o : Object) → List·Memᴰ o os → Sub p (o .yes-marks) → Apart z (o .no-marks))
+    → Sub z (narrowWritten p os x)
+unfolding narrowWritten
+narrow-great p [] x s d = s
+narrow-great p (o ∷ os) x {z} s d = narrow-great p os (cutWritten p o x) (go (sub-dec p (o .yes-marks))) (λ y m. d y (List·Memᴰ·tail m))
+  where
+    go : Dec (Sub p (o .yes-marks)) → Sub z (cutWritten p o x)
+    go (yes h) = rw (written-taken p o x h) (without-great s (d o (List·Memᴰ·head refl) h))
+    go (no n) = rw (written-left p o x n) s
+
+-- what an object marks it has and lacks, so the reach lies in the one by written marks
+pub reach-implied : (rs : List (Implication ℕ)) (n : ℕ) (os : List Object) → All (λ o. o .no-marks < 2 ^ wordAttributes) os → (p : ℕ)
+    → Sub (reach rs n os p) (reachWritten n os p)
+unfolding reachWritten
+reach-implied rs n os w p = narrow-great p os (full n) (reach-inside rs n os p) (λ o m h.
+    apart-sub (sub-refl _) (record { at = λ i k. lacks-marked rs o i (member-lt (o .no-marks) i wordAttributes (w o m) k) k })
+    (reach-apart rs n os p o m (sub-trans h (has-least rs o .above))))
 
 -- ---- of complete objects
 
