@@ -65,6 +65,9 @@ pub fn refuted_part(
 ) -> u64
     ensures { λ r. ⌜ r ≡ refutedPart (lentForce background list rules) (object yes no) (implication premise conclusion) ⌝ }
 {
+    if no == 0 {
+        return 0;
+    }
     let has = implication::closure_of(background, list, rules, yes);
     if premise & has != premise {
         return 0;

@@ -1,4 +1,4 @@
--- The object has not the premise, or it contradicts and lacks everything, or what it lacks is told.
+-- The object has no no marks and lacks nothing, or it has not the premise, or it contradicts and lacks everything, or what it lacks is told.
 use mathlib.Core.Path.{_≡_, sym, ap, subst, _∙_}
 use mathlib.Core.List.{List}
 use Prim.Native.Nat.{ℕ}
@@ -10,12 +10,12 @@ use Rattle.attribute_set.specs.Sets.Laws.{and→sub, sub→and}
 use Rattle.implication.specs.Closure.{implication, inForce}
 use Rattle.context.specs.Objects.{Object, object, has, lacks}
 use Rattle.context.specs.Objects.Laws.{met-contradicts}
-use Rattle.context.specs.Parts.Laws.{part-left, part-taken, part-contradicting}
+use Rattle.context.specs.Parts.Laws.{part-left, part-taken, part-unmarked, part-contradicting}
 use Rattle.context.proofs.refuted_part.Statement.{statement}
 use Rattle.context.proofs.refuted_part.Tie as tie
 
 abbrev start : tie.After-closure-of → tie.Start
-start c = c .before .before .before
+start c = let known = c .before .before in known .before .before
 
 -- the implications in force, the object, and the implication
 abbrev force : tie.After-closure-of → List (Implication ℕ)
@@ -32,26 +32,32 @@ unfolding has
 had c = c .closure-of .ensures
 
 -- the premise is had
-taken : (c : tie.Else1) → Sub (rule (c .before) .premise) (has (force (c .before)) (row (c .before)))
-taken c = subst (λ h. Sub (rule (c .before) .premise) h) (had (c .before)) (and→sub _ _ (c .if1 .left))
+taken : (c : tie.Else2) → Sub (rule (c .before) .premise) (has (force (c .before)) (row (c .before)))
+taken c = subst (λ h. Sub (rule (c .before) .premise) h) (had (c .before)) (and→sub _ _ (c .if2 .left))
 
 returns : tie.Need-returns
 returns c =
-    let d = c .before in
-    sym (part-left (force d) (row d) (rule d) (λ h. c .if1 .taken (ap (bitAnd (rule d .premise)) (had d) ∙ sub→and h)))
+    let a = c .before .before .before .args in
+    let rs = inForce (a .background .now) (a .list .now) (a .rules) in
+    sym (part-unmarked rs (object (a .yes) (a .no)) (implication (a .premise) (a .conclusion)) (c .if1 .taken))
 
 returns-2 : tie.Need-returns-2
 returns-2 c =
-    let d = c .before .before in
-    let k = met-contradicts (force d) (row d) (λ e. c .if2 .taken (ap (λ (x : ℕ). bitAnd x (row d .no-marks)) (d .closure-of .ensures) ∙ e)) in
-    sym (part-taken (force d) (row d) (rule d) (taken (c .before)) ∙ part-contradicting (force d) (row d) (rule d) k (start d .fits .conclusion .fits))
+    let d = c .before in
+    sym (part-left (force d) (row d) (rule d) (λ h. c .if2 .taken (ap (bitAnd (rule d .premise)) (had d) ∙ sub→and h)))
 
 returns-3 : tie.Need-returns-3
 returns-3 c =
+    let d = c .before .before in
+    let k = met-contradicts (force d) (row d) (λ e. c .if3 .taken (ap (λ (x : ℕ). bitAnd x (row d .no-marks)) (d .closure-of .ensures) ∙ e)) in
+    sym (part-taken (force d) (row d) (rule d) (taken (c .before)) ∙ part-contradicting (force d) (row d) (rule d) k (start d .fits .conclusion .fits))
+
+returns-4 : tie.Need-returns-4
+returns-4 c =
     let d = c .before .before .before in
     let e : c .lacked-among .result ≡ bitAnd (rule d .conclusion) (lacks (force d) (row d)) = c .lacked-among .ensures in
     e ∙ sym (part-taken (force d) (row d) (rule d) (taken (c .before .before)))
 
 pub refuted-part-spec : {M : Type 1} → statement M
 refuted-part-spec =
-    tie.close (tie.spec (λ c κs. search needs) returns returns-2 (λ c κs. (c .before .before .closure-of .ensures, c .if2 .left)) returns-3)
+    tie.close (tie.spec returns (λ c κs. search needs) returns-2 returns-3 (λ c κs. (c .before .before .closure-of .ensures, c .if3 .left)) returns-4)

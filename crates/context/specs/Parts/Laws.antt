@@ -6,7 +6,7 @@ use mathlib.Core.Bool.{Bool, true, false, not}
 use mathlib.Core.List.{List}
 use Prim.Native.Nat.{ℕ, _+_, _^_, _≤_, _<_}
 use native.Mathlib.Omega.{arith}
-use lib.Bits.{bitAnd, bitOr, and-le-l}
+use lib.Bits.{bitAnd, bitOr, and-le-l, and-zero-r}
 use lib.Dec.{eqb}
 use lib.Pow.{pow-pos}
 use Rattle.theory.specs.Implications.{Implication}
@@ -17,7 +17,7 @@ use Rattle.implication.specs.Closure.{closure}
 use Rattle.implication.specs.Closure.Laws.{closure-least}
 use Rattle.implication.specs.Until.{CloseUntil}
 use Rattle.context.specs.Objects.{Object, wordAttributes, has, lacks, refutes, contradicts}
-use Rattle.context.specs.Objects.Laws.{lacks-marked, meets-lacks, spared-set, consistent-apart, refutes-taken, refutes-left}
+use Rattle.context.specs.Objects.Laws.{lacks-marked, meets-lacks, unmarked-lacks, spared-set, consistent-apart, refutes-taken, refutes-left}
 use Rattle.context.specs.Implied.Theorem.{implied}
 use Rattle.context.specs.Parts.{spared, refutedPart}
 
@@ -142,6 +142,14 @@ module _ (rs : List (Implication ℕ)) (o : Object) (r : Implication ℕ) where
   pub part-taken : Sub (r .premise) (has rs o) → refutedPart rs o r ≡ bitAnd (r .conclusion) (lacks rs o)
   unfolding refutedPart
   part-taken h = rw (refutedPart, sub-inside h)
+
+  -- one without no marks refutes nothing
+  pub part-unmarked : o .no-marks ≡ 0 → refutedPart rs o r ≡ 0
+  part-unmarked e = go (sub-dec (r .premise) (has rs o))
+    where
+      go : Dec (Sub (r .premise) (has rs o)) → refutedPart rs o r ≡ 0
+      go (yes h) = part-taken h ∙ ap (bitAnd (r .conclusion)) (unmarked-lacks rs o e) ∙ and-zero-r (r .conclusion)
+      go (no n) = part-left n
 
   -- one that contradicts refutes all of a conclusion in a word
   pub part-contradicting : contradicts rs o ≡ true → r .conclusion < 2 ^ wordAttributes → bitAnd (r .conclusion) (lacks rs o) ≡ r .conclusion
