@@ -4,6 +4,7 @@ use mathlib.Core.Path.{_≡_, refl}
 use mathlib.Core.List.{List, [], _∷_}
 use Prim.Native.Nat.{ℕ}
 use Rattle.attribute_set.specs.Sets.{inside, without}
+use Rattle.attribute_set.specs.Passing.{passing}
 use Rattle.table_lines.specs.Lines.{lineOf}
 use Rattle.line_bytes.specs.Everywhere.{everywhere}
 use Rattle.table_counts.specs.Counts.{decimalFrom, isCount, countOf}
@@ -14,7 +15,7 @@ use Rattle.table_layout.specs.Layout.{layoutOf, openedOf}
 use Rattle.table_layout.specs.Examples.{input, unknown}
 use Rattle.table_rows.specs.Rows.{wordOf, rowsFrom}
 use Rattle.text.specs.Text.{digits, setText}
-use Rattle.nearly_always.specs.Nearly.{having, exceeds, passing, nearlyAlways}
+use Rattle.nearly_always.specs.Nearly.{having, exceeds, nearlyAlways}
 use Rattle.short_premises.specs.Premises.{pairsWith, premisesBelow}
 use Rattle.nearly_lines.specs.Lines.{nearlyLines}
 use Rattle.nearly_output.specs.Output.{nearlyOutput}
