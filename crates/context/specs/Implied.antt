@@ -1,7 +1,7 @@
 -- What implied marks mean (02, request 5/13), so that nobody need trust the definitions of `has` and `lacks`: an object that does not
 -- contradict the implications in force has just what every complete object has that extends it and respects them, and lacks just what
 -- none of these has. A complete object that does not contradict has just its yes marks and lacks just its no marks. One that
--- contradicts lacks every attribute of a word (no complete object extends it). `Theorem` proves all of it.
+-- contradicts has no completion, and lacks every attribute of a word. `Theorem` proves all of it.
 use mathlib.Core.Path.{_≡_}
 use mathlib.Core.Logic.{_↔_}
 use mathlib.Core.Bool.{true, false}

@@ -66,6 +66,8 @@ pub record Edges : Type 0 where
   pub five : perform (over (lent 8 2 2) (object 1 0 ∷ object 1 2 ∷ object 2 2 ∷ object 2 2 ∷ [])) step .answer ≡ refused (refusal 5 2)
   -- the second row has 0 and 1 and lacks 2, and so does the third: 6 names the lowest
   pub six : perform (over (lent 6 2 2) (object 1 0 ∷ object 3 4 ∷ object 3 4 ∷ [])) step .answer ≡ refused (refusal 6 1)
+  -- under {} → {0} a row without yes marks contradicts that lacks 0
+  pub six-of-nothing : perform (under (implication 0 1) (object 0 1 ∷ [])) step .answer ≡ refused (refusal 6 0)
   -- the first row contradicts and the second marks an attribute both ways: 5 comes before 6
   pub five-before-six : perform (over (lent 4 2 2) (object 3 4 ∷ object 2 2 ∷ [])) step .answer ≡ refused (refusal 5 1)
   -- {0, 1} is not its own closure under the background, nor {0} under a list with {0} → {1, 2}
@@ -90,6 +92,8 @@ pub record Edges : Type 0 where
   pub refuted-lacked : perform (over (lent 6 2 2) (object 1 0 ∷ object 1 4 ∷ [])) (refute (implication 1 2)) .answer ≡ refuted 1
   -- with {1} → {0} in the list a row with 1 has 0, and refutes {0} → {2} where it lacks 2
   pub refuted-had : perform (agreeing (wider (lent 6 2 2) (object 2 4 ∷ [])) (implication 2 1)) (refute (implication 1 4)) .answer ≡ refuted 0
+  -- under {} → {0} a row offered without yes marks has the premise {0}; one that lacks 0 contradicts
+  pub eleven-of-nothing : perform (under (implication 0 1) []) (reject (object 0 1)) .answer ≡ refused (refusal 11 0)
   -- a yes to {0} → {1, 2} contradicts the second row, which has 0 and lacks 3, and the third: 11 names the lowest
   pub eleven : perform (wider (lent 6 2 2) (object 2 0 ∷ object 1 8 ∷ object 1 8 ∷ [])) accept .answer ≡ refused (refusal 11 1)
   -- 11 is tested before 12

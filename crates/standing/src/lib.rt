@@ -27,6 +27,7 @@ pub fn find_standing(
     ensures { λ r. ⌜ r ≡ found (given session rows list background) ⌝ }
 {
     let n = session.n;
+    let rules = session.rules;
     let current = session.current;
     let verdict = session_checks::check_session(session, rows, list, background, 0, 0);
     if let size_checks::Verdict::Refused(refusal) = verdict {
@@ -35,15 +36,7 @@ pub fn find_standing(
     if current == attribute_set::full_set(n) {
         return Standing::Full;
     }
-    let x = reach::reach_of(
-        n,
-        rows,
-        session.rows,
-        background,
-        list,
-        session.rules,
-        current,
-    );
+    let x = reach::reach_of(n, rows, session.rows, background, list, rules, current);
     if x == current {
         return Standing::Tight;
     }

@@ -5,8 +5,8 @@ use borrow.Author.Tests.{lt-ltb, le-ltb}
 use Rattle.session.specs.declared.Refusal.{Refusal}
 use Rattle.implication.specs.Pairs.Laws.{length-pairs}
 use Rattle.implication.specs.Closure.{implication}
-use Rattle.context.specs.Objects.{object}
-use Rattle.machine.specs.Checks.{State}
+use Rattle.context.specs.Objects.{object, firstRefuting}
+use Rattle.machine.specs.Checks.{State, force}
 use Rattle.machine.specs.Machine.{Call, turn, refute, refutedAt, refused, checksOf, performed, perform}
 use Rattle.machine.specs.Machine.Laws.{perform-accepted, perform-refused}
 use Rattle.size_checks.specs.declared.Verdict.the-variants.{Refused}
@@ -42,8 +42,10 @@ unfolding checksOf performed
 accepted c =
     let d = checked c in
     let a = start d .args in
+    let s = state d in
+    let e : c .first-refuting .result ≡ firstRefuting (force s) (s .rows) (implication (a .premise) (a .conclusion)) = c .first-refuting .ensures in
     perform-accepted (state d) (call d) (sym (d .check-session .ensures) ∙ ap verdictOf (c .before .enum-told .given .1))
-    ∙ rw (← c .first-refuting .ensures, length-pairs object (a .session .rows) (a .rows .now))
+    ∙ rw (← e, length-pairs object (a .session .rows) (a .rows .now))
 
 returns : tie.Need-returns
 returns c = performs (refusing (c .before .before .before) _ (c .before .verdict .given .1)) refl refl
