@@ -9,7 +9,7 @@ ghost use Rattle.implication.specs.Closure.{implication, inForce, closure};
 ghost use Rattle.context.specs.Objects.{object, lacks, refutes};
 ghost use Rattle.context.specs.Parts.{lentForce, spared, refutedPart, FirstRefuting};
 
-// The closure of the yes marks and an attribute (or more), where it does not meet the no marks; else nothing.
+// The closure of the yes marks with an attribute, where it does not meet the no marks; else nothing.
 fn spared_with(
     background: &[u64],
     list: &[u64],
@@ -27,7 +27,7 @@ fn spared_with(
     found
 }
 
-// Of some attributes, those that an object lacks that does not contradict. What is marked no is lacked, what it has is not; of the rest
+// Of some attributes, those that an object which does not contradict lacks. What is marked no is lacked, what it has is not; of the rest
 // one after the other is added to the yes marks, and what is spared with it is not lacked either.
 fn lacked_among(
     background: &[u64],

@@ -24,7 +24,7 @@ over l rows = record { n = 3; lent = l; background = implication 3 4 ∷ []; row
 abbrev pub wider : Lent → List Object → State
 wider l rows = record { n = 4; lent = l; background = implication 7 8 ∷ []; rows = rows; list = []; current = 1 }
 
--- n = 4, one rule in force, all places lent, current set {0}
+-- n = 4, one rule in force, places for four rows and four rules, current set {0}
 abbrev pub under : Implication ℕ → List Object → State
 under r rows = record { n = 4; lent = lent 8 8 2; background = r ∷ []; rows = rows; list = []; current = 1 }
 
@@ -66,7 +66,7 @@ pub record Edges : Type 0 where
   pub five : perform (over (lent 8 2 2) (object 1 0 ∷ object 1 2 ∷ object 2 2 ∷ object 2 2 ∷ [])) step .answer ≡ refused (refusal 5 2)
   -- the second row has 0 and 1 and lacks 2, and so does the third: 6 names the lowest
   pub six : perform (over (lent 6 2 2) (object 1 0 ∷ object 3 4 ∷ object 3 4 ∷ [])) step .answer ≡ refused (refusal 6 1)
-  -- under {} → {0} a row without yes marks contradicts that lacks 0
+  -- under {} → {0} a row that lacks 0 contradicts, also without yes marks
   pub six-of-nothing : perform (under (implication 0 1) (object 0 1 ∷ [])) step .answer ≡ refused (refusal 6 0)
   -- the first row contradicts and the second marks an attribute both ways: 5 comes before 6
   pub five-before-six : perform (over (lent 4 2 2) (object 3 4 ∷ object 2 2 ∷ [])) step .answer ≡ refused (refusal 5 1)

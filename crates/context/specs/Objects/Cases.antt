@@ -18,7 +18,7 @@ pub record Cases : Type 0 where
   pub first : firstRefuting [] (object 1 2 ∷ object 1 4 ∷ []) (implication 1 6) ≡ 0
   pub last : firstRefuting [] (object 4 2 ∷ object 1 4 ∷ []) (implication 1 6) ≡ 1
   pub none : firstRefuting [] (object 4 2 ∷ object 1 0 ∷ []) (implication 1 6) ≡ 2
-  -- {0} → {1}: a row with 0 has 1, and one that lacks 1 lacks 0, whichever is written
+  -- {0} → {1}: a row with 0 has 1, and one that lacks 1 lacks 0
   pub had : has (implication 1 2 ∷ []) (object 1 0) ≡ 3
   pub lacked : lacks (implication 1 2 ∷ []) (object 0 2) ≡ 3
   -- {0, 1} → {2}: a row with 0 that lacks 2 lacks 1

@@ -59,8 +59,9 @@ ten : (c : tie.After-refuted-by)
     Standing s → c .refuted-by .result ≡ refutes (force (state s)) (offered s) (question (state s))
 ten c q =
     let s = start-nine (c .before) in
-    c .refuted-by .ensures
-    ∙ ap (refutes (force (state s)) (offered s)) q
+    let a = s .args in
+    let e : c .refuted-by .result ≡ refutes (force (state s)) (offered s) (implication (a .premise) (a .conclusion)) = c .refuted-by .ensures in
+    e ∙ ap (refutes (force (state s)) (offered s)) q
 
 returns-2 : tie.Need-returns-2
 unfolding noChecks
