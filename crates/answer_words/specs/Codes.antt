@@ -7,7 +7,7 @@ use denote.Ref.{RefT}
 use lib.Dec.{eqb}
 use Rattle.session.specs.Refusals.{refusal}
 use Rattle.implication.specs.Closure.{implication}
-use Rattle.machine.specs.Machine.{Answer, finished, moved, asked, taken, followed, refuted, unrefuted, refused, Opening, opened, rejected}
+use Rattle.machine.specs.Machine.{Answer, finished, moved, asked, taken, followed, refuted, unrefuted, refuting, refused, Opening, opened, rejected}
 use Rattle.answer_words.specs.declared.Answer.{Answer as Coded}
 pub mod Laws
 
@@ -23,6 +23,7 @@ codeOf (followed true) = coded 104 1 0
 codeOf (followed false) = coded 104 0 0
 codeOf (refuted p) = coded 105 p 0
 codeOf unrefuted = coded 106 0 0
+codeOf refuting = coded 108 0 0
 codeOf (refused r) = coded (r .number) (r .place) 0
 
 -- the answer that three words say
@@ -40,7 +41,10 @@ answerIn x =
               | true ↦ followed (eqb (x .first) 1)
               | false ↦ elim (eqb (x .code) 105) [
                 | true ↦ refuted (x .first)
-                | false ↦ elim (eqb (x .code) 106) [ true ↦ unrefuted | false ↦ refused (refusal (x .code) (x .first)) ]
+                | false ↦ elim (eqb (x .code) 106) [
+                  | true ↦ unrefuted
+                  | false ↦ elim (eqb (x .code) 108) [ true ↦ refuting | false ↦ refused (refusal (x .code) (x .first)) ]
+                ]
               ]
             ]
           ]

@@ -29,6 +29,8 @@ impl Answer {
 
     pub const UNKNOWN: u64 = 107;
 
+    pub const REFUTES: u64 = 108;
+
     // The code of a log whose answers have no room.
     pub const NO_ROOM: u64 = 3;
 }

@@ -3,6 +3,7 @@ ghost use mathlib.Core.Path.{_≡_};
 ghost use Rattle.session_steps.specs.Answers.{stepAnswer};
 ghost use Rattle.session_queries.specs.Answers.{followingAnswer, refutingAnswer};
 ghost use Rattle.session_replies.specs.Answers.{replyAnswer};
+ghost use Rattle.session_test.specs.Answers.{testingAnswer};
 ghost use Rattle.answer_words.specs.Codes.{codeOf};
 use answer_words::Answer;
 use answer_words::answer_of_refusal;
@@ -22,7 +23,7 @@ pub fn answer_of_step(answer: session_steps::Step) -> Answer
     }
 }
 
-// The answer to a yes or a no.
+// The answer to a yes, a no or a filing.
 pub fn answer_of_reply(answer: session_replies::Reply) -> Answer
     ensures { λ r. ⌜ r ≡ codeOf (replyAnswer answer) ⌝ }
 {
@@ -51,5 +52,15 @@ pub fn answer_of_refuting(answer: session_queries::Refuting) -> Answer
         session_queries::Refuting::By(row) => in_words(Answer::REFUTED, row as u64, 0),
         session_queries::Refuting::Nothing => in_words(Answer::UNREFUTED, 0, 0),
         session_queries::Refuting::Refused(refusal) => answer_of_refusal(refusal),
+    }
+}
+
+// The answer to a test.
+pub fn answer_of_testing(answer: session_test::Testing) -> Answer
+    ensures { λ r. ⌜ r ≡ codeOf (testingAnswer answer) ⌝ }
+{
+    match answer {
+        session_test::Testing::Refutes => in_words(Answer::REFUTES, 0, 0),
+        session_test::Testing::Refused(refusal) => answer_of_refusal(refusal),
     }
 }

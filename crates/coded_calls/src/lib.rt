@@ -1,7 +1,7 @@
 // The calls of a session with answers in three words, a code and two values.
 ghost use Rattle.implication.specs.Closure.{implication};
 ghost use Rattle.context.specs.Objects.{object};
-ghost use Rattle.machine.specs.Machine.{step as stepping, accept as accepting, reject as rejecting, follow, refute};
+ghost use Rattle.machine.specs.Machine.{step as stepping, accept as accepting, reject as rejecting, follow, refute, test, file};
 ghost use Rattle.machine.specs.Calls.{Made, Turned};
 ghost use Rattle.answer_words.specs.Codes.{codeOf};
 ghost use Rattle.coded_calls.specs.Openings.{OpensCoded};
@@ -116,4 +116,40 @@ pub fn refuted(
 {
     let answer = session_queries::refuted(session, rows, list, background, premise, conclusion);
     coded_answers::answer_of_refuting(answer)
+}
+
+// 02's test: whether the offered row refutes the standing question.
+pub fn test_row(
+    session: session::Session,
+    rows: &[u64],
+    list: &[u64],
+    background: &[u64],
+    yes: u64,
+    no: u64,
+) -> answer_words::Answer
+    ensures { λ r. ⌜ Made codeOf (test (object yes no)) session rows list background r session ⌝ }
+{
+    let answer = session_test::test_row(session, rows, list, background, yes, no);
+    coded_answers::answer_of_testing(answer)
+}
+
+// 02's filing: the offered row becomes the next row.
+pub fn file_row(
+    session: session::Session,
+    rows: &mut [u64],
+    list: &[u64],
+    background: &[u64],
+    yes: u64,
+    no: u64,
+) -> Turn
+    ensures { λ r. ⌜ Turned codeOf (file (object yes no)) session rows list background (r .answer) (r .session) (r .changed) ⌝ }
+{
+    let made = session_filing::file_row(session, rows, list, background, yes, no);
+    let answer = made.answer;
+    let after = made.session;
+    Turn {
+        answer: coded_answers::answer_of_reply(answer),
+        session: after,
+        changed: made.changed,
+    }
 }

@@ -9,6 +9,8 @@ use Rattle.session_queries.proofs.Following as Following
 use Rattle.session_queries.proofs.Following.Laws as Following′
 use Rattle.session_queries.proofs.Refuting as Refuting
 use Rattle.session_queries.proofs.Refuting.Laws as Refuting′
+use Rattle.session_test.proofs.Testing as Testing
+use Rattle.session_test.proofs.Testing.Laws as Testing′
 use Rattle.session_steps.proofs.Stepped as Stepped
 use Rattle.session_replies.proofs.Replied as Replied
 use Rattle.session_steps.specs.declared.Stepped.{Stepped as SteppedD}
@@ -29,6 +31,9 @@ following = record { type = Following.the-type; plain = Following′.the-plain; 
 
 abbrev pub refuting : Enumerated
 refuting = record { type = Refuting.the-type; plain = Refuting′.the-plain; as-field = Refuting′.the-field-laws }
+
+abbrev pub testing : Enumerated
+testing = record { type = Testing.the-type; plain = Testing′.the-plain; as-field = Testing′.the-field-laws }
 
 abbrev pub stepped : TurnedEnum step session
 stepped = record {

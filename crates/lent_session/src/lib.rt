@@ -2,11 +2,12 @@
 // changed. A call that only reads takes it by `&`.
 ghost use Rattle.implication.specs.Closure.{implication};
 ghost use Rattle.context.specs.Objects.{object};
-ghost use Rattle.machine.specs.Machine.{step as stepping, accept as accepting, reject as rejecting, follow, refute};
+ghost use Rattle.machine.specs.Machine.{step as stepping, accept as accepting, reject as rejecting, follow, refute, test, file};
 ghost use Rattle.machine.specs.Calls.{PerformsOn};
 ghost use Rattle.session_steps.specs.Answers.{stepAnswer};
 ghost use Rattle.session_queries.specs.Answers.{followingAnswer, refutingAnswer};
 ghost use Rattle.session_replies.specs.Answers.{replyAnswer};
+ghost use Rattle.session_test.specs.Answers.{testingAnswer};
 
 // Finished at M; the standing question; or a move to the next closed set.
 pub fn step(
@@ -87,4 +88,37 @@ pub fn refuted(
     ensures { λ r. ⌜ PerformsOn (refute (implication premise conclusion)) session rows list background (refutingAnswer r) ⌝ }
 {
     session_queries::refuted(*session, rows, list, background, premise, conclusion)
+}
+
+// 02's test: whether the offered row refutes the standing question.
+pub fn test_row(
+    session: &session::Session,
+    rows: &[u64],
+    list: &[u64],
+    background: &[u64],
+    yes: u64,
+    no: u64,
+) -> session_test::Testing
+    ensures { λ r. ⌜ PerformsOn (test (object yes no)) session rows list background (testingAnswer r) ⌝ }
+{
+    session_test::test_row(*session, rows, list, background, yes, no)
+}
+
+// 02's filing: the offered row becomes the next row. No question has to stand.
+pub fn file_row(
+    session: &mut session::Session,
+    rows: &mut [u64],
+    list: &[u64],
+    background: &[u64],
+    yes: u64,
+    no: u64,
+) -> session_replies::Reply
+    ensures { λ r. ⌜ PerformsOn (file (object yes no)) session rows list background (replyAnswer r) ⌝ }
+{
+    let held = *session;
+    let turn = session_filing::file_row(held, rows, list, background, yes, no);
+    if turn.changed {
+        *session = turn.session;
+    }
+    turn.answer
 }

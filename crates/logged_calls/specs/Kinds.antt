@@ -9,14 +9,14 @@ use denote.Ref.{now}
 use lib.Dec.{eqb}
 use Rattle.implication.specs.Closure.{implication}
 use Rattle.context.specs.Objects.{object}
-use Rattle.machine.specs.Machine.{Call, step, accept, reject, follow, refute}
+use Rattle.machine.specs.Machine.{Call, step, accept, reject, follow, refute, test, file}
 use Rattle.machine.specs.Calls.{Words, MadeFrom}
 use Rattle.session.specs.declared.Session.{Session}
 use Rattle.answer_words.specs.Codes.{coded, codeOf}
 use Rattle.answer_words.specs.declared.Answer.{Answer as Coded}
 pub mod Laws
 
--- the kinds: 0 step, 1 yes, 2 no, 3 follows, 4 refuted
+-- the kinds: 0 step, 1 yes, 2 no, 3 follows, 4 refuted, 5 test, 6 filing
 unfoldable pub callOf : ℕ → ℕ → ℕ → Option Call
 callOf k a b =
     elim (eqb k 0) [
@@ -27,7 +27,13 @@ callOf k a b =
           | true ↦ some (reject (object a b))
           | false ↦ elim (eqb k 3) [
             | true ↦ some (follow (implication a b))
-            | false ↦ elim (eqb k 4) [ true ↦ some (refute (implication a b)) | false ↦ none ]
+            | false ↦ elim (eqb k 4) [
+              | true ↦ some (refute (implication a b))
+              | false ↦ elim (eqb k 5) [
+                | true ↦ some (test (object a b))
+                | false ↦ elim (eqb k 6) [ true ↦ some (file (object a b)) | false ↦ none ]
+              ]
+            ]
           ]
         ]
       ]

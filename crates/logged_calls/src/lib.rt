@@ -12,6 +12,10 @@ pub const FOLLOWS: u64 = 3;
 
 pub const REFUTED: u64 = 4;
 
+pub const TEST: u64 = 5;
+
+pub const FILE: u64 = 6;
+
 // One call of a log, made through the call of its kind.
 pub fn replay_one(
     session: session::Session,
@@ -46,6 +50,16 @@ pub fn replay_one(
             session,
             changed: false,
         };
+    }
+    if kind == TEST {
+        return coded_calls::Turn {
+            answer: coded_calls::test_row(session, rows, list, background, a, b),
+            session,
+            changed: false,
+        };
+    }
+    if kind == FILE {
+        return coded_calls::file_row(session, rows, list, background, a, b);
     }
     coded_calls::Turn {
         answer: answer_words::in_words(answer_words::Answer::UNKNOWN, 0, 0),

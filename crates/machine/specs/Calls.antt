@@ -12,7 +12,7 @@ use Rattle.implication.specs.Closure.{implicationsOf, allImplications}
 use Rattle.context.specs.Objects.{objectsOf}
 pub use Rattle.context.specs.Parts.{Words}
 use Rattle.machine.specs.Checks.{State, question}
-use Rattle.machine.specs.Machine.{Call, step, accept, reject, follow, refute, Answer, finished, moved, asked, taken, followed, refuted, unrefuted, refused, perform, Opening, opening}
+use Rattle.machine.specs.Machine.{Call, step, accept, reject, follow, refute, test, file, Answer, finished, moved, asked, taken, followed, refuted, unrefuted, refuting, refused, perform, Opening, opening}
 pub mod Laws
 
 -- ---- states
@@ -36,7 +36,7 @@ Record = Both (RefT Session) (RefT Session)
 abbrev pub given : Session → Words → Words → Words → State
 given s rows list background = stateOf s (now (rows .entry)) (now (list .entry)) (now (background .entry))
 
--- ---- the lent words after a call: on a refusal as they were, after an accepted reply with the two words of the next place set
+-- ---- the lent words after a call: on a refusal as they were, after an accepted reply or filing with the two words of the next place set
 
 abbrev pub putPair : Answer → ℕ → ℕ → ℕ → List ℕ → List ℕ
 putPair finished k a b ws = ws
@@ -46,15 +46,18 @@ putPair taken k a b ws = set (set ws (k * 2) a) (k * 2 + 1) b
 putPair (followed x) k a b ws = ws
 putPair (refuted p) k a b ws = ws
 putPair unrefuted k a b ws = ws
+putPair refuting k a b ws = ws
 putPair (refused r) k a b ws = ws
 
--- the row words after a call with this answer: a no writes the offered row
+-- the row words after a call with this answer: a no and a filing write the offered row
 abbrev pub rowsBy : Call → Answer → State → List ℕ → List ℕ
 rowsBy step a s ws = ws
 rowsBy accept a s ws = ws
 rowsBy (reject o) a s ws = putPair a (length (s .rows)) (o .yes-marks) (o .no-marks) ws
 rowsBy (follow r) a s ws = ws
 rowsBy (refute r) a s ws = ws
+rowsBy (test o) a s ws = ws
+rowsBy (file o) a s ws = putPair a (length (s .rows)) (o .yes-marks) (o .no-marks) ws
 
 -- the list words after it: a yes writes the question
 abbrev pub listBy : Call → Answer → State → List ℕ → List ℕ
@@ -63,6 +66,8 @@ listBy accept a s ws = putPair a (length (s .list)) (question s .premise) (quest
 listBy (reject o) a s ws = ws
 listBy (follow r) a s ws = ws
 listBy (refute r) a s ws = ws
+listBy (test o) a s ws = ws
+listBy (file o) a s ws = ws
 
 -- after a call of the plain machine
 abbrev pub rowsAfter : Call → State → List ℕ → List ℕ
@@ -85,7 +90,7 @@ abbrev pub Made : {X : Type 0} → (Answer → X) → Call → Session → Words
 Made says c s rows list background x after =
     MadeFrom says c s (now (rows .entry)) (now (list .entry)) (now (background .entry)) x after (now (rows .exit)) (now (list .exit))
 
--- whether an answer says that the record changed: a move, and an accepted reply
+-- whether an answer says that the record changed: a move, and an accepted reply or filing
 abbrev pub changes : Answer → Bool
 changes finished = false
 changes moved = true
@@ -94,6 +99,7 @@ changes taken = true
 changes (followed b) = false
 changes (refuted p) = false
 changes unrefuted = false
+changes refuting = false
 changes (refused r) = false
 
 -- the same of a call that says besides whether the record changed

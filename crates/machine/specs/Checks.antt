@@ -120,12 +120,26 @@ yesChecks s =
     ∷ check 12 (leb (s .lent .list / 2) (length (s .list))) 0
     ∷ []
 
--- a no: no question; a bad row; a row that does not refute the question; one that contradicts; no place for a row
-unfoldable pub noChecks : State → Object → List Check
-noChecks s o =
+-- an offered row: an attribute outside M, or one marked both ways
+abbrev pub badRow : ℕ → Object → Bool
+badRow n o = strangeObject n o || markedTwice o
+
+-- a test of an offered row (02, request 6/13): no question; a bad row; a row that does not refute the question
+unfoldable pub testChecks : State → Object → List Check
+testChecks s o =
     check 8 (not (questionStands s)) 0
-    ∷ check 9 (strangeObject (s .n) o || markedTwice o) 0
+    ∷ check 9 (badRow (s .n) o) 0
     ∷ check 10 (not (refutes (force s) o (question s))) 0
+    ∷ []
+
+-- a filing of an offered row (02, request 6/13): a bad row; a row that contradicts; no place for a row
+unfoldable pub filingChecks : State → Object → List Check
+filingChecks s o =
+    check 9 (badRow (s .n) o) 0
     ∷ check 11 (contradicts (force s) o) 0
     ∷ check 12 (leb (s .lent .rows / 2) (length (s .rows))) 0
     ∷ []
+
+-- a no: the test, then the filing
+abbrev pub noChecks : State → Object → List Check
+noChecks s o = testChecks s o ++ filingChecks s o

@@ -1,6 +1,6 @@
--- Demand 2, contradiction: in a state that passes checks 1 to 7, a reply that passes the checks before 11 is refused with 11
--- if and only if no complete table over M agrees with all rows in use, all rules in force and the reply.
--- Said for a yes and for a no, for every state and every offered row; `Theorem` proves both.
+-- Demand 2, contradiction: in a state that passes checks 1 to 7, a reply or a filing that passes the checks before 11 is refused with 11
+-- if and only if no complete table over M agrees with all rows in use, all rules in force and the reply, or the offered row.
+-- Said for a yes, a no and a filing, for every state and every offered row; `Theorem` proves all three.
 use mathlib.Core.Path.{_≡_}
 use mathlib.Core.Logic.{_↔_}
 use mathlib.Core.List.{List, [], _++_}
@@ -10,8 +10,8 @@ use lib.ListN.{take}
 use Rattle.theory.specs.Lists.{All}
 use Rattle.context.specs.Objects.{Object}
 use Rattle.context.specs.Tables.{Table, AgreesObject, AgreesImplication}
-use Rattle.machine.specs.Checks.{State, firstFailing, sessionChecks, yesChecks, noChecks, force, question}
-use Rattle.machine.specs.Machine.{Call, accept, reject, refused, perform}
+use Rattle.machine.specs.Checks.{State, firstFailing, sessionChecks, yesChecks, testChecks, filingChecks, force, question}
+use Rattle.machine.specs.Machine.{Call, accept, reject, file, refused, perform}
 use Rattle.machine.specs.Replies.{Reply, agreed, offered, AgreesReply}
 pub mod Theorem
 
@@ -30,13 +30,17 @@ pub record Agrees (s : State) (r : Reply) (t : List Object) : Type 0 where
 abbrev pub Contradictory : State → Reply → Type 0
 Contradictory s r = (t : List Object) → Agrees s r t → ⊥
 
--- the checks before 11: 1 to 7, then 8 of a yes, and 8, 9, 10 of a no
+-- the checks before 11: 1 to 7, then 8 of a yes, those of the test, 8, 9, 10, of a no, and 9 of a filing
 abbrev pub YesUpTo11 : State → Type 0
 YesUpTo11 s = firstFailing (sessionChecks s [] ++ take 1 (yesChecks s)) ≡ none
 
 abbrev pub NoUpTo11 : State → Object → Type 0
-NoUpTo11 s o = firstFailing (sessionChecks s [] ++ take 3 (noChecks s o)) ≡ none
+NoUpTo11 s o = firstFailing (sessionChecks s [] ++ testChecks s o) ≡ none
+
+abbrev pub FilingUpTo11 : State → Object → Type 0
+FilingUpTo11 s o = firstFailing (sessionChecks s [] ++ take 1 (filingChecks s o)) ≡ none
 
 pub record Demand2 : Type 0 where
   pub yes-call : (s : State) → YesUpTo11 s → Refused11 s accept ↔ Contradictory s (agreed (question s))
   pub no-call : (s : State) (o : Object) → NoUpTo11 s o → Refused11 s (reject o) ↔ Contradictory s (offered o)
+  pub filing : (s : State) (o : Object) → FilingUpTo11 s o → Refused11 s (file o) ↔ Contradictory s (offered o)

@@ -40,7 +40,7 @@ pub record AfterCalls (n : ℕ) (lent : Lent) (background : List (Implication �
   pub same-n : run start calls .n ≡ n
   pub same-lent : run start calls .lent ≡ lent
   pub same-background : run start calls .background ≡ background
-  -- 2. the rows are those of the opening, then the offered rows of the accepted no calls in order;
+  -- 2. the rows are those of the opening, then the offered rows of the accepted no calls and filings in order;
   -- the list is the questions of the accepted yes calls in order
   pub all-rows : run start calls .rows ≡ rows ++ offeredIn (replies start calls)
   pub all-list : run start calls .list ≡ agreedIn (replies start calls)

@@ -9,7 +9,7 @@ use Rattle.implication.specs.Closure.{implication}
 use Rattle.context.specs.Objects.{Object, object}
 use Rattle.session.specs.Refusals.{refusal}
 use Rattle.machine.specs.Checks.{Lent, State}
-use Rattle.machine.specs.Machine.{step, accept, reject, follow, refute, asked, taken, refuted, refused, moveTo, agreeing, afterYes, perform, rejected, opened, opening, openingState}
+use Rattle.machine.specs.Machine.{step, accept, reject, follow, refute, test, file, finished, asked, taken, refuted, refuting, refused, turn, moveTo, agreeing, afterYes, perform, rejected, opened, opening, openingState}
 pub mod Proof
 
 -- lent lengths: row words, list words, background words
@@ -103,3 +103,23 @@ pub record Edges : Type 0 where
   -- a row that fits finds the last place, or none
   pub last-place-for-a-row : perform (over (lent 4 2 2) (object 2 0 ∷ [])) (reject (object 1 4)) .answer ≡ taken
   pub no-place-for-a-row : perform (over (lent 2 2 2) (object 2 0 ∷ [])) (reject (object 1 4)) .answer ≡ refused (refusal 12 0)
+  -- a test of a row that refutes the question {0} → {1, 2} says so and leaves the state; it needs no place, and does not ask whether the row
+  -- contradicts
+  pub test-refutes : perform (over (lent 2 2 2) (object 2 0 ∷ [])) (test (object 1 4)) ≡ turn refuting (over (lent 2 2 2) (object 2 0 ∷ []))
+  pub test-contradicting : perform (over (lent 4 2 2) []) (test (object 3 4)) .answer ≡ refuting
+  -- 8 of a test, before 9; then 9, and 10 of rows that do not refute
+  pub test-eight : perform (moveTo (over (lent 2 2 2) []) 7) (test (object 9 0)) .answer ≡ refused (refusal 8 0)
+  pub test-nine : perform (over (lent 4 2 2) []) (test (object 3 2)) .answer ≡ refused (refusal 9 0)
+  pub test-ten-premise : perform (over (lent 4 2 2) []) (test (object 0 2)) .answer ≡ refused (refusal 10 0)
+  pub test-ten-conclusion : perform (over (lent 4 2 2) []) (test (object 1 0)) .answer ≡ refused (refusal 10 0)
+  -- a filing of a row that refutes nothing, to a standing question: it is the last row, and the set stays
+  pub filed : perform (over (lent 4 2 2) (object 2 0 ∷ [])) (file (object 0 2)) ≡ turn taken (over (lent 4 2 2) (object 2 0 ∷ object 0 2 ∷ []))
+  -- with no question, at a set that equals its reach, and at M, where a step still answers Finished
+  pub filed-unasked : perform (over (lent 4 2 2) (object 1 6 ∷ [])) (file (object 0 0)) .answer ≡ taken
+  pub filed-at-M : perform (moveTo (over (lent 2 2 2) []) 7) (file (object 1 4)) ≡ turn taken (moveTo (over (lent 2 2 2) (object 1 4 ∷ [])) 7)
+  pub finished-after : perform (moveTo (over (lent 2 2 2) (object 1 4 ∷ [])) 7) step .answer ≡ finished
+  -- 9 of a filing; 11, also where no place is left; 12
+  pub file-nine-outside : perform (over (lent 4 2 2) []) (file (object 9 2)) .answer ≡ refused (refusal 9 0)
+  pub file-nine-twice : perform (moveTo (over (lent 4 2 2) []) 7) (file (object 3 2)) .answer ≡ refused (refusal 9 0)
+  pub file-eleven : perform (over (lent 2 2 2) (object 2 0 ∷ [])) (file (object 3 4)) .answer ≡ refused (refusal 11 0)
+  pub file-twelve : perform (over (lent 2 2 2) (object 2 0 ∷ [])) (file (object 0 2)) .answer ≡ refused (refusal 12 0)

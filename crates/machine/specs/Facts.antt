@@ -1,4 +1,4 @@
--- Document 01's refusals 1 to 12 as facts about a state, a rule asked about and a reply ("Refusals in checking order"). `Laws` proves that
+-- Document 01's refusals 1 to 12 as facts about a state, a rule asked about, a reply, a test and a filing ("Refusals in checking order"). `Laws` proves that
 -- the checks pass just where these hold, and `Kept` that they hold of checks 1 to 7 from an accepted opening on.
 use mathlib.Core.Path.{_≡_}
 use mathlib.Core.Bool.{true}
@@ -50,6 +50,20 @@ pub record YesFits (s : State) : Type 0 where
   pub stands : Stands s
   pub consistent : All (λ o. Apart (closure (withQuestion s) (o .yes-marks)) (o .no-marks)) (s .rows)
   pub place : length (s .list) < s .lent .list / 2
+
+-- checks 8 to 10 of a test: a question stands, and the offered row is a row over M that refutes it
+pub record TestFits (s : State) (o : Object) : Type 0 where
+  pub stands : Stands s
+  pub inside : InM (s .n) o
+  pub once : Apart (o .yes-marks) (o .no-marks)
+  pub refuting : refutes (force s) o (question s) ≡ true
+
+-- checks 9, 11 and 12 of a filing: the offered row is a row over M that does not contradict, and a place is left. No question is asked for.
+pub record FilingFits (s : State) (o : Object) : Type 0 where
+  pub inside : InM (s .n) o
+  pub once : Apart (o .yes-marks) (o .no-marks)
+  pub consistent : Apart (closure (force s) (o .yes-marks)) (o .no-marks)
+  pub place : length (s .rows) < s .lent .rows / 2
 
 -- checks 8 to 12 of a no: a question stands, the offered row is a row over M that refutes it and does not contradict, and a place is left
 pub record NoFits (s : State) (o : Object) : Type 0 where

@@ -5,6 +5,7 @@ pub mod Marked
 pub mod Edges
 pub mod Traps
 pub mod Replies
+pub mod InTurn
 pub mod Facts
 pub mod Demand2
 pub mod Demand3

@@ -11,7 +11,7 @@ use Rattle.implication.specs.Closure.{closure, follows}
 use Rattle.next_set.specs.Next.{next}
 use Rattle.context.specs.Objects.{Object, firstRefuting}
 use Rattle.session.specs.declared.Refusal.{Refusal}
-use Rattle.machine.specs.Checks.{Lent, State, Check, firstFailing, sessionChecks, yesChecks, noChecks, force, whole, tight, open-question, standing, question}
+use Rattle.machine.specs.Checks.{Lent, State, Check, firstFailing, sessionChecks, yesChecks, testChecks, filingChecks, noChecks, force, whole, tight, open-question, standing, question}
 pub mod Laws
 
 -- the calls of a session, with any arguments
@@ -23,18 +23,24 @@ pub data Call : Type 0 where
   -- the read-only calls: whether an implication follows, whether a row refutes it
   follow : Implication ℕ → Call
   refute : Implication ℕ → Call
+  -- a row offered to the standing question, to be told whether it refutes it, and a row offered at any time, to be the next row (02, request
+  -- 6/13: the test and the filing)
+  test : Object → Call
+  file : Object → Call
 
 pub data Answer : Type 0 where
   -- of a step
   finished : Answer
   moved : Answer
   asked : Implication ℕ → Answer
-  -- of a reply
+  -- of a reply and of a filing
   taken : Answer
   -- of the read-only calls: whether it follows; the first row that refutes it, or that none does
   followed : Bool → Answer
   refuted : ℕ → Answer
   unrefuted : Answer
+  -- of a test: the offered row refutes the standing question
+  refuting : Answer
   -- of any call: the number and place of 01's list
   refused : Refusal → Answer
 
@@ -70,9 +76,9 @@ agreeing s q = record {
 abbrev pub afterYes : State → State
 afterYes s = agreeing s (question s)
 
--- a no: one row more
-abbrev pub afterNo : State → Object → State
-afterNo s o = record { n = s .n; lent = s .lent; background = s .background; rows = s .rows ++ (o ∷ []); list = s .list; current = s .current }
+-- a filing, and so a no: one row more
+abbrev pub afterFiling : State → Object → State
+afterFiling s o = record { n = s .n; lent = s .lent; background = s .background; rows = s .rows ++ (o ∷ []); list = s .list; current = s .current }
 
 -- ---- what an accepted call does
 
@@ -92,9 +98,11 @@ refutedAt place rows = elim (ltb place rows) [ true ↦ refuted place | false �
 unfoldable pub performed : State → Call → Turn
 performed s step = performStep s
 performed s accept = turn taken (afterYes s)
-performed s (reject o) = turn taken (afterNo s o)
+performed s (reject o) = turn taken (afterFiling s o)
 performed s (follow r) = turn (followed (follows (force s) r)) s
 performed s (refute r) = turn (refutedAt (firstRefuting (force s) (s .rows) r) (length (s .rows))) s
+performed s (test o) = turn refuting s
+performed s (file o) = turn taken (afterFiling s o)
 
 -- ---- a call, with its checks
 
@@ -104,6 +112,8 @@ checksOf s accept = sessionChecks s [] ++ yesChecks s
 checksOf s (reject o) = sessionChecks s [] ++ noChecks s o
 checksOf s (follow r) = sessionChecks s (r ∷ [])
 checksOf s (refute r) = sessionChecks s (r ∷ [])
+checksOf s (test o) = sessionChecks s [] ++ testChecks s o
+checksOf s (file o) = sessionChecks s [] ++ filingChecks s o
 
 unfoldable pub perform : State → Call → Turn
 perform s c = elim (firstFailing (checksOf s c)) [ none ↦ performed s c | some r ↦ turn (refused r) s ]

@@ -1,4 +1,5 @@
--- The accepted replies of a list of calls, and when a complete table is truthful to them (01, "The interview").
+-- The accepted replies of a list of calls, filings among them, and when a complete table is truthful to them (01, "The interview"; 02, request
+-- 6/13).
 use mathlib.Core.Bool.{Bool, true, false}
 use mathlib.Core.List.{List, [], _∷_, _++_}
 use mathlib.Core.Option.{Option, none, some}
@@ -8,10 +9,10 @@ use Rattle.theory.specs.Implications.{Implication}
 use Rattle.context.specs.Objects.{Object}
 use Rattle.context.specs.Tables.{Table, AgreesObject, AgreesImplication}
 use Rattle.machine.specs.Checks.{State}
-use Rattle.machine.specs.Machine.{Call, step, accept, reject, follow, refute, Answer, finished, moved, asked, taken, followed, refuted, unrefuted, refused, perform, run}
+use Rattle.machine.specs.Machine.{Call, step, accept, reject, follow, refute, test, file, Answer, finished, moved, asked, taken, followed, refuted, unrefuted, refuting, refused, perform, run}
 pub mod Laws
 
--- an accepted reply: the question that a yes agreed to, or the object that a no offered
+-- an accepted reply: the question that a yes agreed to, or the object that a no or a filing offered
 pub data Reply : Type 0 where
   agreed : Implication ℕ → Reply
   offered : Object → Reply
@@ -24,6 +25,7 @@ askedBy taken = none
 askedBy (followed b) = none
 askedBy (refuted p) = none
 askedBy unrefuted = none
+askedBy refuting = none
 askedBy (refused r) = none
 
 -- the question of a reply in this state: what a step in its place would answer with Asked
@@ -38,6 +40,7 @@ isTaken taken = true
 isTaken (followed b) = false
 isTaken (refuted p) = false
 isTaken unrefuted = false
+isTaken refuting = false
 isTaken (refused r) = false
 
 abbrev pub agreedTo : Option (Implication ℕ) → List Reply
@@ -51,6 +54,8 @@ madeBy s accept = agreedTo (questionAt s)
 madeBy s (reject o) = offered o ∷ []
 madeBy s (follow r) = []
 madeBy s (refute r) = []
+madeBy s (test o) = []
+madeBy s (file o) = offered o ∷ []
 
 unfoldable pub replyOf : State → Call → List Reply
 replyOf s c = elim (isTaken (perform s c .answer)) [ true ↦ madeBy s c | false ↦ [] ]
@@ -60,7 +65,7 @@ unfoldable pub replies : State → List Call → List Reply
 replies s [] = []
 replies s (c ∷ cs) = replyOf s c ++ replies (perform s c .after) cs
 
--- the questions of the accepted yes calls; the offered objects of the accepted no calls
+-- the questions of the accepted yes calls; the offered objects of the accepted no calls and filings
 unfoldable pub agreedIn : List Reply → List (Implication ℕ)
 agreedIn [] = []
 agreedIn (agreed q ∷ rs) = q ∷ agreedIn rs
@@ -71,7 +76,7 @@ offeredIn [] = []
 offeredIn (agreed q ∷ rs) = offeredIn rs
 offeredIn (offered o ∷ rs) = o ∷ offeredIn rs
 
--- a table agrees with a yes if it agrees with the implication, with a no if it agrees with the offered object
+-- a table agrees with a yes if it agrees with the implication, with a no or a filing if it agrees with the offered object
 abbrev pub AgreesReply : List Object → Reply → Type 0
 AgreesReply t (agreed q) = AgreesImplication t q
 AgreesReply t (offered o) = AgreesObject t o

@@ -1,18 +1,18 @@
-// All checks of a yes and of a no: 1 to 7, 8, and those behind it.
+// All checks of a yes and of a test: 1 to 7, 8, and those behind it.
 ghost use mathlib.Core.Path.{_≡_};
 ghost use Rattle.context.specs.Objects.{object};
-ghost use Rattle.machine.specs.Machine.{accept as accepting, reject as rejecting};
+ghost use Rattle.machine.specs.Machine.{accept as accepting, test};
 ghost use Rattle.machine.specs.Calls.{given};
 ghost use Rattle.size_checks.specs.Verdicts.{verdictOf};
 ghost use Rattle.reply_checks.specs.Outcomes.{asking, askingAfter, unasked};
 
-// The standing question, to which a reply passes its checks, or its refusal.
+// The standing question, to which a reply or a test passes its checks, or its refusal.
 pub enum Asking {
     Question(standing::Question),
     Refused(session::Refusal),
 }
 
-// The question of a reply whose checks behind check 8 have this verdict.
+// The question of a call whose checks behind check 8 have this verdict.
 fn ask(question: standing::Question, verdict: size_checks::Verdict) -> Asking
     ensures { λ r. ⌜ r ≡ askingAfter question (verdictOf verdict) ⌝ }
 {
@@ -22,7 +22,7 @@ fn ask(question: standing::Question, verdict: size_checks::Verdict) -> Asking
     }
 }
 
-// Check 8: a reply is made where no question stands.
+// Check 8: a reply or a test is made where no question stands.
 fn nothing_asked() -> Asking
     ensures { λ r. ⌜ r ≡ unasked ⌝ }
 {
@@ -57,8 +57,8 @@ pub fn check_yes(
     }
 }
 
-// All checks of a no with an offered row.
-pub fn check_no(
+// All checks of a test of an offered row: the standing question, which the row refutes, or the refusal.
+pub fn check_test(
     session: session::Session,
     rows: &[u64],
     list: &[u64],
@@ -66,21 +66,23 @@ pub fn check_no(
     yes: u64,
     no: u64,
 ) -> Asking
-    ensures { λ r. ⌜ r ≡ asking (given session rows list background) (rejecting (object yes no)) ⌝ }
+    ensures { λ r. ⌜ r ≡ asking (given session rows list background) (test (object yes no)) ⌝ }
 {
+    let n = session.n;
+    let rules = session.rules;
     let standing = standing::find_standing(session, rows, list, background);
     match standing {
         standing::Standing::Open(question) => ask(
             question,
-            row_tests::check_row(
-                session,
-                rows,
-                list,
+            row_tests::check_tested_row(
+                n,
                 background,
-                question.premise,
-                question.conclusion,
+                list,
+                rules,
                 yes,
                 no,
+                question.premise,
+                question.conclusion,
             ),
         ),
         standing::Standing::Refused(refusal) => Asking::Refused(refusal),

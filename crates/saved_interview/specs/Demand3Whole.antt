@@ -67,8 +67,8 @@ pub record Demand3Whole {n : ℕ} {background : List ℕ} (i : Interview n backg
   pub answered : i .answers-after ≡ answersOf (opening-state i) (logOf (i .calls)) ++ drop (length (i .calls) / 3 * 3) (i .answers)
   pub rows-past : PastKept (i .start .rows) (i .end .rows) (i .rows) (i .rows-after)
   pub list-past : PastKept (i .start .rules) (i .end .rules) (i .list) (i .list-after)
-  -- 2. the rows are those in use at the opening, then the offered rows of the accepted no calls in order; the list is the
-  -- questions of the accepted yes calls in order
+  -- 2. the rows are those in use at the opening, then the offered rows of the accepted no calls and filings in order; the list is
+  -- the questions of the accepted yes calls in order
   pub all-rows : end-rows i ≡ objectsOf (i .used) (i .rows) ++ offeredIn (replies (opening-state i) (script i))
   pub all-list : end-list i ≡ agreedIn (replies (opening-state i) (script i))
   -- 3. decided: if a step now answers Finished, a rule over M follows from background and list just if no row refutes it, by implied marks

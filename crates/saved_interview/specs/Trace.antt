@@ -6,7 +6,7 @@ use mathlib.Core.Option.{Option, none}
 use Prim.Native.Nat.{ℕ, suc, _+_, _*_, _≤_, _<_}
 use lib.ListN.{length, getD, take}
 use Rattle.machine.specs.Checks.{State}
-use Rattle.machine.specs.Machine.{Call, step, accept, reject, follow, refute, run}
+use Rattle.machine.specs.Machine.{Call, step, accept, reject, follow, refute, test, file, run}
 use Rattle.answer_words.specs.declared.Answer.{Answer as Coded}
 use Rattle.answer_words.specs.Codes.{coded}
 use Rattle.call_logs.specs.Replay.{replayCode, replayAfter, known, logOf}
@@ -47,6 +47,8 @@ wordsOf accept ws = 1 ∷ 0 ∷ 0 ∷ ws
 wordsOf (reject o) ws = 2 ∷ o .yes-marks ∷ o .no-marks ∷ ws
 wordsOf (follow r) ws = 3 ∷ r .premise ∷ r .conclusion ∷ ws
 wordsOf (refute r) ws = 4 ∷ r .premise ∷ r .conclusion ∷ ws
+wordsOf (test o) ws = 5 ∷ o .yes-marks ∷ o .no-marks ∷ ws
+wordsOf (file o) ws = 6 ∷ o .yes-marks ∷ o .no-marks ∷ ws
 
 abbrev pub logWordsOf : List Call → List ℕ
 logWordsOf [] = []

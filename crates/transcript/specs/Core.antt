@@ -13,7 +13,7 @@ use Rattle.context.specs.Objects.{Object, object, firstWritten}
 use Rattle.session.specs.declared.Refusal.{Refusal}
 use Rattle.session.specs.Refusals.{refusal}
 use Rattle.machine.specs.Checks.{State}
-use Rattle.machine.specs.Machine.{afterMove, agreeing, afterNo}
+use Rattle.machine.specs.Machine.{afterMove, agreeing, afterFiling}
 use Rattle.written_machine.specs.Reading.{writtenReach, writtenQuestion}
 use Rattle.output_lines.specs.Lines.{yesLine, noLine}
 use Rattle.closing_lines.specs.Closing.{refusalLine}
@@ -40,7 +40,7 @@ unfoldable pub coreNo : State → ℕ → Implication ℕ → ℕ → Object →
 coreNo s changes q number o =
     elim (leb (s .lent .rows / 2) (length (s .rows))) [
       | true ↦ last (noLine (s .n) q number ++ refusalLine noPlace)
-      | false ↦ more (noLine (s .n) q number) (afterNo s o) changes
+      | false ↦ more (noLine (s .n) q number) (afterFiling s o) changes
     ]
 
 -- yes

@@ -10,7 +10,7 @@ use Rattle.theory.specs.Implications.{Implication}
 use Rattle.context.specs.Objects.{Object, object, firstWritten}
 use Rattle.session.specs.Limits.{mostObjects, mostImplications}
 use Rattle.machine.specs.Checks.{Lent, State}
-use Rattle.machine.specs.Machine.{step, accept, reject, Answer, finished, moved, asked, taken, followed, refuted, unrefuted, refused, perform, opened, rejected, Opening, opening}
+use Rattle.machine.specs.Machine.{step, accept, reject, Answer, finished, moved, asked, taken, followed, refuted, unrefuted, refuting, refused, perform, opened, rejected, Opening, opening}
 use Rattle.table_layout.specs.Layout.{openedOf}
 use Rattle.table_rows.specs.Rows.{rowsFrom}
 use Rattle.complete_tables.specs.Complete.{completeOf}
@@ -36,6 +36,7 @@ replied line changes taken s = more line s changes
 replied line changes (followed b) s = last line
 replied line changes (refuted p) s = last line
 replied line changes unrefuted s = last line
+replied line changes refuting s = last line
 replied line changes (refused r) s = last (line ++ refusalLine r)
 
 -- the reply to a question: no with the first row of the table that refutes it by its own marks, which is counted from 1, else yes
@@ -62,6 +63,7 @@ stepped table s changes taken s′ = last []
 stepped table s changes (followed b) s′ = last []
 stepped table s changes (refuted p) s′ = last []
 stepped table s changes unrefuted s′ = last []
+stepped table s changes refuting s′ = last []
 stepped table s changes (refused r) s′ = last (refusalLine r)
 
 -- one beat: a step, and the reply where it asks

@@ -1,7 +1,7 @@
 -- The plain machine read by written marks: of document 01's machine (`Checks`, `Machine`) each definition that reads what a row has and
 -- lacks, with the marks that are written. So the machine was before request 5/13 of document 02; checks 1 to 7 never read anything else.
 -- `Unchanged` says where it is the machine as it is now.
-use mathlib.Core.Bool.{Bool, true, false, not, _||_}
+use mathlib.Core.Bool.{Bool, true, false, not}
 use mathlib.Core.List.{List, [], _∷_, _++_}
 use mathlib.Core.Option.{none, some}
 use Prim.Native.Nat.{ℕ, _/_}
@@ -11,10 +11,10 @@ use Rattle.theory.specs.Implications.{Implication}
 use Rattle.attribute_set.specs.Sets.{full, without}
 use Rattle.implication.specs.Closure.{implication, follows}
 use Rattle.context.specs.Places.{lowest, anywhere}
-use Rattle.context.specs.Objects.{Object, refutesWritten, firstWritten, markedTwice, contradicts}
+use Rattle.context.specs.Objects.{Object, refutesWritten, firstWritten, contradicts}
 use Rattle.written_marks.specs.Written.{reachWritten}
-use Rattle.machine.specs.Checks.{State, force, Standing, whole, tight, open-question, Check, check, firstFailing, strangeObject, sessionChecks}
-use Rattle.machine.specs.Machine.{Call, step, accept, reject, follow, refute, finished, moved, asked, taken, followed, refused, Turn, turn, afterMove, agreeing, afterNo, refutedAt}
+use Rattle.machine.specs.Checks.{State, force, Standing, whole, tight, open-question, Check, check, firstFailing, badRow, sessionChecks, filingChecks}
+use Rattle.machine.specs.Machine.{Call, step, accept, reject, follow, refute, test, file, finished, moved, asked, taken, followed, refuting, refused, Turn, turn, afterMove, agreeing, afterFiling, refutedAt}
 pub mod Unchanged
 
 -- the reach of the current set
@@ -48,14 +48,12 @@ writtenYes s =
     ∷ check 12 (leb (s .lent .list / 2) (length (s .list))) 0
     ∷ []
 
--- checks 8 to 12 of a no
-unfoldable pub writtenNo : State → Object → List Check
-writtenNo s o =
+-- checks 8 to 10 of a test; those of a filing never read implied marks
+unfoldable pub writtenTest : State → Object → List Check
+writtenTest s o =
     check 8 (not (writtenStands s)) 0
-    ∷ check 9 (strangeObject (s .n) o || markedTwice o) 0
+    ∷ check 9 (badRow (s .n) o) 0
     ∷ check 10 (not (refutesWritten o (writtenQuestion s))) 0
-    ∷ check 11 (contradicts (force s) o) 0
-    ∷ check 12 (leb (s .lent .rows / 2) (length (s .rows))) 0
     ∷ []
 
 -- what an accepted step does
@@ -71,16 +69,20 @@ writtenStep s =
 unfoldable pub writtenPerformed : State → Call → Turn
 writtenPerformed s step = writtenStep s
 writtenPerformed s accept = turn taken (agreeing s (writtenQuestion s))
-writtenPerformed s (reject o) = turn taken (afterNo s o)
+writtenPerformed s (reject o) = turn taken (afterFiling s o)
 writtenPerformed s (follow r) = turn (followed (follows (force s) r)) s
 writtenPerformed s (refute r) = turn (refutedAt (firstWritten (s .rows) r) (length (s .rows))) s
+writtenPerformed s (test o) = turn refuting s
+writtenPerformed s (file o) = turn taken (afterFiling s o)
 
 unfoldable pub writtenChecks : State → Call → List Check
 writtenChecks s step = sessionChecks s []
 writtenChecks s accept = sessionChecks s [] ++ writtenYes s
-writtenChecks s (reject o) = sessionChecks s [] ++ writtenNo s o
+writtenChecks s (reject o) = sessionChecks s [] ++ (writtenTest s o ++ filingChecks s o)
 writtenChecks s (follow r) = sessionChecks s (r ∷ [])
 writtenChecks s (refute r) = sessionChecks s (r ∷ [])
+writtenChecks s (test o) = sessionChecks s [] ++ writtenTest s o
+writtenChecks s (file o) = sessionChecks s [] ++ filingChecks s o
 
 -- a call, with its checks
 unfoldable pub writtenPerform : State → Call → Turn

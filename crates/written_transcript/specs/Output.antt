@@ -8,7 +8,7 @@ use lib.Dec.{ltb}
 use Rattle.theory.specs.Implications.{Implication}
 use Rattle.context.specs.Objects.{Object, object, firstWritten}
 use Rattle.machine.specs.Checks.{Lent, State}
-use Rattle.machine.specs.Machine.{step, accept, reject, Answer, finished, moved, asked, taken, followed, refuted, unrefuted, refused, opened, rejected, Opening, opening}
+use Rattle.machine.specs.Machine.{step, accept, reject, Answer, finished, moved, asked, taken, followed, refuted, unrefuted, refuting, refused, opened, rejected, Opening, opening}
 use Rattle.written_machine.specs.Reading.{writtenPerform}
 use Rattle.table_layout.specs.Layout.{openedOf}
 use Rattle.complete_tables.specs.Complete.{completeOf}
@@ -39,6 +39,7 @@ writtenStepped table s changes taken s′ = last []
 writtenStepped table s changes (followed b) s′ = last []
 writtenStepped table s changes (refuted p) s′ = last []
 writtenStepped table s changes unrefuted s′ = last []
+writtenStepped table s changes refuting s′ = last []
 writtenStepped table s changes (refused r) s′ = last (refusalLine r)
 
 -- one beat: a step, and the reply where it asks

@@ -1,7 +1,7 @@
 // The calls of a session for C. A call that only reads takes the record by `&`; the others store it where it changed.
 ghost use Rattle.implication.specs.Closure.{implication};
 ghost use Rattle.context.specs.Objects.{object};
-ghost use Rattle.machine.specs.Machine.{step as stepping, accept as accepting, reject as rejecting, follow, refute};
+ghost use Rattle.machine.specs.Machine.{step as stepping, accept as accepting, reject as rejecting, follow, refute, test, file};
 ghost use Rattle.coded_calls.specs.Openings.{AnswersOn, OpensOn};
 ghost use Rattle.call_logs.specs.Replay.{ReplaysOn};
 ghost use Rattle.saved_interview.specs.TakingUp.{TakesUpOn};
@@ -116,6 +116,43 @@ pub extern "C" fn zundrafl_refuted(
     ensures { λ _. ⌜ AnswersOn (refute (implication premise conclusion)) session rows list background answer ⌝ }
 {
     *answer = coded_calls::refuted(*session, rows, list, background, premise, conclusion);
+}
+
+// 02's test: whether the offered row refutes the standing question.
+#[no_mangle]
+pub extern "C" fn zundrafl_test_row(
+    session: &session::Session,
+    rows: &[u64],
+    list: &[u64],
+    background: &[u64],
+    yes: u64,
+    no: u64,
+    answer: &mut answer_words::Answer,
+)
+    ensures { λ _. ⌜ AnswersOn (test (object yes no)) session rows list background answer ⌝ }
+{
+    *answer = coded_calls::test_row(*session, rows, list, background, yes, no);
+}
+
+// 02's filing: the offered row becomes the next row.
+#[no_mangle]
+pub extern "C" fn zundrafl_file_row(
+    session: &mut session::Session,
+    rows: &mut [u64],
+    list: &[u64],
+    background: &[u64],
+    yes: u64,
+    no: u64,
+    answer: &mut answer_words::Answer,
+)
+    ensures { λ _. ⌜ AnswersOn (file (object yes no)) session rows list background answer ⌝ }
+{
+    let held = *session;
+    let turn = coded_calls::file_row(held, rows, list, background, yes, no);
+    if turn.changed {
+        *session = turn.session;
+    }
+    *answer = turn.answer;
 }
 
 // Makes each call of a log and writes down its answer; where the answers have no room for all, nothing is done.

@@ -8,7 +8,7 @@ use native.Mathlib.Omega.{arith}
 use borrow.Author.Tests.{ne-eqb}
 use Rattle.session.specs.declared.Refusal.{Refusal}
 use Rattle.machine.specs.Checks.{State}
-use Rattle.machine.specs.Machine.{Call, Answer, finished, moved, asked, taken, followed, refuted, unrefuted, refused, perform, Opening, opened, rejected}
+use Rattle.machine.specs.Machine.{Call, Answer, finished, moved, asked, taken, followed, refuted, unrefuted, refuting, refused, perform, Opening, opened, rejected}
 use Rattle.machine.specs.Facts.Refused.{small-number, opening-number}
 use Rattle.machine.specs.Calls.{openingFrom}
 use Rattle.answer_words.specs.Codes.{codeOf, answerIn, codeOfOpening, isOpened}
@@ -24,6 +24,7 @@ read-words (followed true) p = refl
 read-words (followed false) p = refl
 read-words (refuted k) p = refl
 read-words unrefuted p = refl
+read-words refuting p = refl
 read-words (refused r) p =
     let small = p r refl in
     rw (
@@ -35,6 +36,7 @@ read-words (refused r) p =
       ne-eqb (r .number) 104 (λ e. omega (arith, small)),
       ne-eqb (r .number) 105 (λ e. omega (arith, small)),
       ne-eqb (r .number) 106 (λ e. omega (arith, small)),
+      ne-eqb (r .number) 108 (λ e. omega (arith, small)),
     )
 
 module _ (s : State) (c : Call) where
@@ -63,6 +65,7 @@ small-code (followed true) h = absurd (omega arith)
 small-code (followed false) h = absurd (omega arith)
 small-code (refuted k) h = absurd (omega arith)
 small-code unrefuted h = absurd (omega arith)
+small-code refuting h = absurd (omega arith)
 small-code (refused r) h = (r, refl)
 
 -- an opening with a code of 100 or more is accepted

@@ -1,5 +1,5 @@
 -- What one call of a log leaves: its answer's code, the machine's state after it, and past the words in use every word as it
--- was. A reply that is taken sets exactly the two words of the next place, and every other call leaves the words alone.
+-- was. A reply or a filing that is taken sets exactly the two words of the next place, and every other call leaves the words alone.
 use mathlib.Core.Path.{_≡_, refl, sym, ap, _∙_, subst}
 use mathlib.Core.Bool.{Bool, true, false, not, true≢false}
 use mathlib.Core.List.{List, [], _∷_}
@@ -10,10 +10,10 @@ use lib.ListN.{length, set, drop, length-set, length-append}
 use lib.Seq.{drop-set-lt}
 use Rattle.implication.specs.Pairs.Laws.{length-pairs}
 use Rattle.implication.specs.Closure.{implication}
-use Rattle.context.specs.Objects.{object}
+use Rattle.context.specs.Objects.{Object, object}
 use Rattle.session.specs.declared.Refusal.{Refusal}
 use Rattle.machine.specs.Checks.{State, question}
-use Rattle.machine.specs.Machine.{Call, step, accept, reject, follow, refute, refused, Turn, turn, performed, perform}
+use Rattle.machine.specs.Machine.{Call, step, accept, reject, follow, refute, test, file, taken, refused, Turn, turn, afterFiling, performed, perform}
 use Rattle.machine.specs.Machine.Laws.{perform-cases, step-cases}
 use Rattle.machine.specs.Calls.{stateOf, rowsBy, listBy}
 use Rattle.machine.specs.Calls.Laws.{rows-kept, list-kept}
@@ -67,6 +67,14 @@ module _ (s s′ : Session) (background rows list rows′ list′ : List ℕ) wh
       → PastKept (s .rows) (s′ .rows) rows rows′ × PastKept (s .rules) (s′ .rules) list list′
   same-leaves x r l is p q = (rows-still x is r p, list-still x is l q)
 
+  -- a filing, and so a no
+  filed-leaves : (o : Object) → Leaves (file o) (turn taken (afterFiling before o))
+  filed-leaves o is p q = (
+    put-past _ _ (length (before .rows)) _ _ rows rows′ (sym (length-pairs object (s .rows) rows))
+        (rows-counted _ is ∙ length-append (before .rows) (o ∷ [])) p,
+    list-still _ is refl q,
+  )
+
   performed-leaves : (c : Call) → Leaves c (performed before c)
   unfolding performed
   performed-leaves step = step-cases before (Leaves step) (λ e. same-leaves _ refl refl) (λ a b. same-leaves _ refl refl) (λ a b. same-leaves _ refl refl)
@@ -75,13 +83,11 @@ module _ (s s′ : Session) (background rows list rows′ list′ : List ℕ) wh
     put-past _ _ (length (before .list)) _ _ list list′ (sym (length-pairs implication (s .rules) list))
         (list-counted _ is ∙ length-append (before .list) (question before ∷ [])) q,
   )
-  performed-leaves (reject o) = λ is p q. (
-    put-past _ _ (length (before .rows)) _ _ rows rows′ (sym (length-pairs object (s .rows) rows))
-        (rows-counted _ is ∙ length-append (before .rows) (o ∷ [])) p,
-    list-still _ is refl q,
-  )
+  performed-leaves (reject o) = filed-leaves o
   performed-leaves (follow r) = same-leaves _ refl refl
   performed-leaves (refute r) = same-leaves _ refl refl
+  performed-leaves (test o) = same-leaves _ refl refl
+  performed-leaves (file o) = filed-leaves o
 
   refused-leaves : (c : Call) (r : Refusal) → Leaves c (turn (refused r) before)
   refused-leaves c r is p q = same-leaves _ refl refl is (p ∙ rows-kept c r before rows) (q ∙ list-kept c r before list)

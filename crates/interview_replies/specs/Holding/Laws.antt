@@ -12,10 +12,10 @@ use Rattle.next_set.specs.Next.{next}
 use Rattle.context.specs.Objects.{object, objectsOf}
 use Rattle.session.specs.Limits.{mostAttributes}
 use Rattle.machine.specs.Checks.{State}
-use Rattle.machine.specs.Machine.{agreeing, afterNo}
+use Rattle.machine.specs.Machine.{agreeing, afterFiling}
 use Rattle.machine.specs.Calls.{stateOf}
 use Rattle.session.specs.declared.Session.{Session}
-use Rattle.session_replies.specs.Answers.Laws.{yes-holds, no-holds}
+use Rattle.session_replies.specs.Answers.Laws.{yes-holds, filing-holds}
 use Rattle.text.specs.Page.{Page, text}
 use Rattle.text.specs.Page.Laws.{text-on}
 use Rattle.output_lines.specs.Lines.{yesLine, noLine}
@@ -67,8 +67,8 @@ module _ (i : Interview) (rows list : List ℕ) where
       no-free h =
           let l : length (objectsOf (i .rows) rows) < length rows / 2 = omega (arith, length-pairs object (i .rows) rows) in
           let x : Session = record { n = i .n; rows = i .rows; rules = i .rules; current = i .current } in
-          leaves-more _ _ _ end _ list p p′ t (afterNo (holding i rows list) (object yes no)) (i .changes)
-          (no-holds x rows list [] yes no (omega arith)) refl (rw (coreNo, lt-leb _ _ l))
+          leaves-more _ _ _ end _ list p p′ t (afterFiling (holding i rows list) (object yes no)) (i .changes)
+          (filing-holds x rows list [] yes no (omega arith)) refl (rw (coreNo, lt-leb _ _ l))
 
     -- ---- yes
 

@@ -2,7 +2,7 @@
 use mathlib.Core.Path.{_≡_}
 use borrow.Author.Needs.{needs}
 use Rattle.logged_calls.specs.Kinds.{callOf}
-use Rattle.logged_calls.specs.Kinds.Laws.{call-unknown, kind-step, kind-yes, kind-no, kind-follows, kind-refuted, of-kind, of-unknown}
+use Rattle.logged_calls.specs.Kinds.Laws.{call-unknown, kind-step, kind-yes, kind-no, kind-follows, kind-refuted, kind-test, kind-filing, of-kind, of-unknown}
 use Rattle.logged_calls.proofs.replay_one.Statement.{statement}
 use Rattle.logged_calls.proofs.replay_one.Tie as tie
 
@@ -22,11 +22,18 @@ returns-5 : tie.Need-returns-5
 returns-5 c = let d = c in of-kind _ 4 _ _ (d .before .before .before .if5 .taken) (kind-refuted _ _) (d .refuted .ensures)
 
 returns-6 : tie.Need-returns-6
-returns-6 c =
+returns-6 c = let d = c in of-kind _ 5 _ _ (d .before .before .before .if6 .taken) (kind-test _ _) (d .test-row .ensures)
+
+returns-7 : tie.Need-returns-7
+returns-7 c = let d = c .before .before in of-kind _ 6 _ _ (d .before .before .before .if7 .taken) (kind-filing _ _) (d .file-row .ensures .made)
+
+returns-8 : tie.Need-returns-8
+returns-8 c =
     let d = c .before in
+    let fifth = d .before .before in
     of-unknown _ _ _ _ _ _
-    (call-unknown _ _ _ (d .before .before .before .before .if1 .left) (d .before .before .before .if2 .left) (d .before .before .if3 .left)
-    (d .before .if4 .left) (d .if5 .left))
+    (call-unknown _ _ _ (fifth .before .before .before .before .if1 .left) (fifth .before .before .before .if2 .left) (fifth .before .before .if3 .left)
+    (fifth .before .if4 .left) (fifth .if5 .left) (d .before .if6 .left) (d .if7 .left))
     (c .in-words .ensures)
 
 pub replay-one-spec : {M : Type 1} → statement M
@@ -54,4 +61,12 @@ replay-one-spec =
     (λ c. search needs)
     returns-5
     (λ c κs. search needs)
-    returns-6)
+    (λ c. search needs)
+    (λ c. search needs)
+    returns-6
+    (λ c κs. search needs)
+    (λ c. search needs)
+    (λ c. search needs)
+    returns-7
+    (λ c κs. search needs)
+    returns-8)

@@ -6,19 +6,20 @@ use Prim.Native.Nat.{ℕ}
 use borrow.Author.Tests.{ne-eqb}
 use Rattle.implication.specs.Closure.{implication}
 use Rattle.context.specs.Objects.{object}
-use Rattle.machine.specs.Machine.{Call, step, accept, reject, follow, refute}
+use Rattle.machine.specs.Machine.{Call, step, accept, reject, follow, refute, test, file}
 use Rattle.machine.specs.Calls.{MadeFrom}
 use Rattle.session.specs.declared.Session.{Session}
 use Rattle.answer_words.specs.declared.Answer.{Answer as Coded}
 use Rattle.answer_words.specs.Codes.{coded, codeOf}
 use Rattle.logged_calls.specs.Kinds.{callOf, ReplaysFrom}
 
--- a kind that is none of the five is no call
-pub call-unknown : (k a b : ℕ) → (k ≡ 0 → ⊥) → (k ≡ 1 → ⊥) → (k ≡ 2 → ⊥) → (k ≡ 3 → ⊥) → (k ≡ 4 → ⊥) → callOf k a b ≡ none
+-- a kind that is none of the seven is no call
+pub call-unknown : (k a b : ℕ) → (k ≡ 0 → ⊥) → (k ≡ 1 → ⊥) → (k ≡ 2 → ⊥) → (k ≡ 3 → ⊥) → (k ≡ 4 → ⊥) → (k ≡ 5 → ⊥) → (k ≡ 6 → ⊥) → callOf k a b ≡ none
 unfolding callOf
-call-unknown k a b n0 n1 n2 n3 n4 = rw (ne-eqb k 0 n0, callOf, ne-eqb k 1 n1, ne-eqb k 2 n2, ne-eqb k 3 n3, ne-eqb k 4 n4)
+call-unknown k a b n0 n1 n2 n3 n4 n5 n6 =
+    rw (ne-eqb k 0 n0, callOf, ne-eqb k 1 n1, ne-eqb k 2 n2, ne-eqb k 3 n3, ne-eqb k 4 n4, ne-eqb k 5 n5, ne-eqb k 6 n6)
 
--- the five kinds
+-- the seven kinds
 module _ (a b : ℕ) where
   pub kind-step : callOf 0 a b ≡ some step
   unfolding callOf
@@ -39,6 +40,14 @@ module _ (a b : ℕ) where
   pub kind-refuted : callOf 4 a b ≡ some (refute (implication a b))
   unfolding callOf
   kind-refuted = refl
+
+  pub kind-test : callOf 5 a b ≡ some (test (object a b))
+  unfolding callOf
+  kind-test = refl
+
+  pub kind-filing : callOf 6 a b ≡ some (file (object a b))
+  unfolding callOf
+  kind-filing = refl
 
 -- a call of known kind is made as that call, and one of unknown kind changes nothing
 module _ {s after : Session} {rows list background rows′ list′ : List ℕ} {x : Coded} where

@@ -11,7 +11,7 @@ use Rattle.session.specs.declared.Session.{Session}
 use Rattle.session.specs.declared.Refusal.{Refusal}
 use Rattle.session.specs.Choice.{chosen}
 use Rattle.machine.specs.Checks.{State, question}
-use Rattle.machine.specs.Machine.{Call, step, accept, reject, follow, refute, Answer, finished, moved, asked, taken, followed, refuted, unrefuted, refused, Turn, turn, performed, perform}
+use Rattle.machine.specs.Machine.{Call, step, accept, reject, follow, refute, test, file, Answer, finished, moved, asked, taken, followed, refuted, unrefuted, refuting, refused, Turn, turn, performed, perform}
 use Rattle.machine.specs.Machine.Laws.{perform-cases, step-cases}
 use Rattle.machine.specs.Calls.{stateOf, putPair, rowsBy, listBy, rowsAfter, listAfter, changes, MadeFrom, TurnedFrom}
 
@@ -38,6 +38,25 @@ module _ {c : Call} {s after : Session} {rows list background rows′ list′ : 
       → TurnedFrom (λ y. y) c s rows list background a after rows′ list′ changed → TurnedFrom says c s rows list background x after rows′ list′ changed
   said-turn says e m = record { made = said says e (m .made); change = m .change }
 
+-- a call that does what another does, and writes the same words, promises what the other promises
+module _ {c d : Call} {s after : Session} {rows list background rows′ list′ : List ℕ} {a : Answer} {changed : Bool} where
+  pub as-call : perform (stateOf s rows list background) d ≡ perform (stateOf s rows list background) c
+      → ((x : Answer) → rowsBy d x (stateOf s rows list background) rows ≡ rowsBy c x (stateOf s rows list background) rows)
+      → ((x : Answer) → listBy d x (stateOf s rows list background) list ≡ listBy c x (stateOf s rows list background) list)
+      → TurnedFrom (λ x. x) c s rows list background a after rows′ list′ changed → TurnedFrom (λ x. x) d s rows list background a after rows′ list′ changed
+  as-call e r l t =
+      let g = stateOf s rows list background in
+      let m = t .made in
+      record {
+        made = record {
+          answer = m .answer ∙ sym (ap (λ (x : Turn). x .answer) e);
+          state = m .state ∙ sym (ap (λ (x : Turn). x .after) e);
+          rows-written = m .rows-written ∙ sym (r (perform g c .answer)) ∙ sym (ap (λ (x : Turn). rowsBy d (x .answer) g rows) e);
+          list-written = m .list-written ∙ sym (l (perform g c .answer)) ∙ sym (ap (λ (x : Turn). listBy d (x .answer) g list) e);
+        };
+        change = t .change ∙ sym (ap (λ (x : Turn). changes (x .answer)) e);
+      }
+
 -- ---- no change
 
 performed-unchanged : (s : State) (c : Call) → changes (performed s c .answer) ≡ false → performed s c .after ≡ s
@@ -47,6 +66,8 @@ performed-unchanged s accept = λ h. absurd (true≢false h)
 performed-unchanged s (reject o) = λ h. absurd (true≢false h)
 performed-unchanged s (follow r) = λ h. refl
 performed-unchanged s (refute r) = λ h. refl
+performed-unchanged s (test o) = λ h. refl
+performed-unchanged s (file o) = λ h. absurd (true≢false h)
 
 pub unchanged : (s : State) (c : Call) → changes (perform s c .answer) ≡ false → perform s c .after ≡ s
 unchanged s c = perform-cases s c (λ t. changes (t .answer) ≡ false → t .after ≡ s) (λ e. performed-unchanged s c) (λ r e h. refl)
@@ -59,6 +80,7 @@ put-kept taken k x y ws h = absurd (true≢false h)
 put-kept (followed b) k x y ws h = refl
 put-kept (refuted p) k x y ws h = refl
 put-kept unrefuted k x y ws h = refl
+put-kept refuting k x y ws h = refl
 put-kept (refused r) k x y ws h = refl
 
 pub rows-unchanged : (s : State) (c : Call) (ws : List ℕ) → changes (perform s c .answer) ≡ false → rowsAfter c s ws ≡ ws
@@ -67,6 +89,8 @@ rows-unchanged s accept ws h = refl
 rows-unchanged s (reject o) ws h = put-kept (perform s (reject o) .answer) (length (s .rows)) (o .yes-marks) (o .no-marks) ws h
 rows-unchanged s (follow r) ws h = refl
 rows-unchanged s (refute r) ws h = refl
+rows-unchanged s (test o) ws h = refl
+rows-unchanged s (file o) ws h = put-kept (perform s (file o) .answer) (length (s .rows)) (o .yes-marks) (o .no-marks) ws h
 
 pub list-unchanged : (s : State) (c : Call) (ws : List ℕ) → changes (perform s c .answer) ≡ false → listAfter c s ws ≡ ws
 list-unchanged s step ws h = refl
@@ -74,6 +98,8 @@ list-unchanged s accept ws h = put-kept (perform s accept .answer) (length (s .l
 list-unchanged s (reject o) ws h = refl
 list-unchanged s (follow r) ws h = refl
 list-unchanged s (refute r) ws h = refl
+list-unchanged s (test o) ws h = refl
+list-unchanged s (file o) ws h = refl
 
 module _ {X : Type 0} {says : Answer → X} {c : Call} {s after : Session} {rows list background rows′ list′ : List ℕ} {x : X} where
   pub kept-made : MadeFrom says c s rows list background x after rows′ list′ → changes (perform (stateOf s rows list background) c .answer) ≡ false
@@ -101,6 +127,8 @@ rows-kept accept r s ws = refl
 rows-kept (reject o) r s ws = refl
 rows-kept (follow q) r s ws = refl
 rows-kept (refute q) r s ws = refl
+rows-kept (test o) r s ws = refl
+rows-kept (file o) r s ws = refl
 
 pub list-kept : (c : Call) (r : Refusal) (s : State) (ws : List ℕ) → listBy c (refused r) s ws ≡ ws
 list-kept step r s ws = refl
@@ -108,3 +136,5 @@ list-kept accept r s ws = refl
 list-kept (reject o) r s ws = refl
 list-kept (follow q) r s ws = refl
 list-kept (refute q) r s ws = refl
+list-kept (test o) r s ws = refl
+list-kept (file o) r s ws = refl

@@ -20,7 +20,7 @@ use Rattle.context.specs.Places.Search.{anywhere-cons, anywhere-append}
 use Rattle.context.specs.Objects.{Object, contradicts}
 use Rattle.session.specs.declared.Refusal.{Refusal}
 use Rattle.session.specs.Refusals.{refusal}
-use Rattle.machine.specs.Checks.{State, Check, firstFailing, strange, strangeObject, strangeImplication, outsideM, sessionChecks, force, reachOf, Standing, whole, tight, open-question, standing, questionStands}
+use Rattle.machine.specs.Checks.{State, Check, firstFailing, strange, strangeObject, strangeImplication, outsideM, sessionChecks, testChecks, filingChecks, noChecks, force, reachOf, Standing, whole, tight, open-question, standing, questionStands}
 
 pub or-false : (a b : Bool) → (a || b) ≡ false → (a ≡ false) × (b ≡ false)
 or-false true b e = absurd (true≢false e)
@@ -71,6 +71,10 @@ passed-append xs ys e = split xs (passed (xs ++ ys) e)
     split [] p = (tt, p)
     split (c ∷ zs) p = let t = split zs (p .1) in ((p .0, t .0), t .1)
 
+pub append-passed : (xs ys : List Check) → Passed xs → Passed ys → Passed (xs ++ ys)
+append-passed [] ys p q = q
+append-passed (c ∷ xs) ys p q = (p .0, append-passed xs ys (p .1) q)
+
 -- a check that fails decides, whatever stands behind it
 pub failing-first : (xs ys : List Check) (r : Refusal) → firstFailing xs ≡ some r → firstFailing (xs ++ ys) ≡ some r
 unfolding firstFailing
@@ -82,6 +86,14 @@ failing-first (c ∷ xs) ys r e = go (c .fails) (failing-first xs ys r) e
         → _≡_ {A = Option Refusal} (elim b [ true ↦ some (refusal (c .number) (c .place)) | false ↦ firstFailing (xs ++ ys) ]) (some r)
     go true ih h = h
     go false ih h = ih h
+
+-- a no that passes its checks passes those of the test and those of the filing
+pub no-both : (s : State) (o : Object) → firstFailing (sessionChecks s [] ++ noChecks s o) ≡ none
+    → (firstFailing (testChecks s o) ≡ none) × (firstFailing (filingChecks s o) ≡ none)
+no-both s o e =
+    let p = passed-append (sessionChecks s []) (noChecks s o) e .1 in
+    let q = passed-append (testChecks s o) (filingChecks s o) (none-failing (noChecks s o) p) in
+    (none-failing _ (q .0), none-failing _ (q .1))
 
 -- ---- checks 1 to 7
 

@@ -1,5 +1,5 @@
--- Demand 2, contradiction: a reply that passes the checks before 11 is refused with 11 just if no complete table agrees with
--- all rows in use, all rules in force and the reply. One direction builds a table, the completed closure of each row's yes
+-- Demand 2, contradiction: a reply or a filing that passes the checks before 11 is refused with 11 just if no complete table agrees with
+-- all rows in use, all rules in force and the reply, or the offered row. One direction builds a table, the completed closure of each row's yes
 -- marks; the other shows that a row of an agreeing table extends each row.
 use mathlib.Core.Path.{_≡_, refl, sym, ap, _∙_, subst}
 use mathlib.Core.Logic.{_↔_}
@@ -24,12 +24,13 @@ use Rattle.reach.specs.Reach.Laws.{reach-inside}
 use Rattle.context.specs.Tables.{Complete, Table, AgreesObject, AgreesImplication, completed}
 use Rattle.context.specs.Tables.Laws.{completed-complete, completes, completed-agrees, no-contradiction}
 use Rattle.session.specs.declared.Refusal.{Refusal}
-use Rattle.machine.specs.Checks.{State, Check, check, firstFailing, sessionChecks, yesChecks, noChecks, force, reachOf, question, withQuestion, strangeObject}
-use Rattle.machine.specs.Checks.Laws.{Passed, passed, passed-append, failing-append, failing-nothing, failing-here, failing-later, or-false, InM, familiar-object, Valid, valid}
-use Rattle.machine.specs.Machine.{Call, accept, reject, taken, refused, Turn, performed, checksOf}
+use Rattle.machine.specs.Checks.{State, Check, check, firstFailing, sessionChecks, yesChecks, testChecks, filingChecks, force, reachOf, question, withQuestion, strangeObject}
+use Rattle.machine.specs.Checks.Laws.{Passed, passed, none-failing, passed-append, append-passed, failing-append, failing-nothing, failing-here, failing-later, or-false, InM, familiar-object, Valid, valid}
+use Rattle.machine.specs.Machine.{Call, accept, reject, file, taken, refused, Turn, performed, checksOf}
 use Rattle.machine.specs.Machine.Laws.{perform-refused, perform-accepted}
+use Rattle.machine.specs.InTurn.Theorem.{test-passed}
 use Rattle.machine.specs.Replies.{agreed, offered}
-use Rattle.machine.specs.Demand2.{Refused11, Agrees, Contradictory, YesUpTo11, NoUpTo11, Demand2}
+use Rattle.machine.specs.Demand2.{Refused11, Agrees, Contradictory, YesUpTo11, NoUpTo11, FilingUpTo11, Demand2}
 
 -- ---- refused with 11: where 11 is the last but one check and those before it pass
 
@@ -91,7 +92,7 @@ module _ (n : ℕ) (rs : List (Implication ℕ)) (rows : List Object) (over : Al
       let t = Memᴰ·of-map (complete n rs) rows k in
       subst (λ x. refutesWritten x r ≡ false) (t .2) (completed-agrees n rs (closure-least rs (t .0 .yes-marks) .member) r m)
 
--- ---- the two replies
+-- ---- a yes, a filing, a no
 
 decide : (b : Bool) → ((b ≡ false) → ⊥) → b ≡ true
 decide true h = refl
@@ -137,15 +138,15 @@ yes-call s up =
           reply = rules (question s) (Memᴰ·append-right (force s) (List·Memᴰ·head refl));
         }
 
-no-call : (s : State) (o : Object) → NoUpTo11 s o → Refused11 s (reject o) ↔ Contradictory s (offered o)
-unfolding noChecks checksOf performed
-no-call s o up =
-    let p = passed (sessionChecks s [] ++ take 3 (noChecks s o)) up in
-    let q = passed-append (sessionChecks s []) (take 3 (noChecks s o)) up in
+filing : (s : State) (o : Object) → FilingUpTo11 s o → Refused11 s (file o) ↔ Contradictory s (offered o)
+unfolding filingChecks checksOf performed
+filing s o up =
+    let p = passed (sessionChecks s [] ++ take 1 (filingChecks s o)) up in
+    let q = passed-append (sessionChecks s []) (take 1 (filingChecks s o)) up in
     let v = valid s [] (q .0) in
-    let inM = familiar-object (s .n) o (or-false (strangeObject (s .n) o) _ (q .1 .1 .0) .0) in
-    let i = refused-iff s (reject o) (sessionChecks s [] ++ take 3 (noChecks s o)) (contradicts (force s) o) 0
-    (leb (s .lent .rows / 2) (length (s .rows))) (sym (append-assoc (sessionChecks s []) (take 3 (noChecks s o)) _)) p refl in
+    let inM = familiar-object (s .n) o (or-false (strangeObject (s .n) o) _ (q .1 .0) .0) in
+    let i = refused-iff s (file o) (sessionChecks s [] ++ take 1 (filingChecks s o)) (contradicts (force s) o) 0
+    (leb (s .lent .rows / 2) (length (s .rows))) (sym (append-assoc (sessionChecks s []) (take 1 (filingChecks s o)) _)) p refl in
     (λ e. against v (i .0 e), λ e. i .1 (decide (contradicts (force s) o) (λ f. e (closures (s .n) (force s) rows) (agrees v inM f))))
   where
     rows : List Object
@@ -166,5 +167,13 @@ no-call s o up =
           reply = found o (Memᴰ·append-right (s .rows) (List·Memᴰ·head refl));
         }
 
+-- where the test passes, a no is the filing
+no-call : (s : State) (o : Object) → NoUpTo11 s o → Refused11 s (reject o) ↔ Contradictory s (offered o)
+unfolding checksOf filingChecks testChecks
+no-call s o up =
+    let p = passed-append (sessionChecks s []) (testChecks s o) up in
+    let nine = none-failing _ (append-passed (sessionChecks s []) (take 1 (filingChecks s o)) (p .0) (p .1 .1 .0, tt)) in
+    subst (λ t. ((k : ℕ) × (t .answer ≡ refused (record { number = 11; place = k }))) ↔ Contradictory s (offered o)) (sym (test-passed s o up)) (filing s o nine)
+
 pub demand-2 : Demand2
-demand-2 = record { yes-call = yes-call; no-call = no-call }
+demand-2 = record { yes-call = yes-call; no-call = no-call; filing = filing }

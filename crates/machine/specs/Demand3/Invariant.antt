@@ -28,9 +28,9 @@ use Rattle.context.specs.Objects.{Object, has, lacks, contradicts}
 use Rattle.context.specs.Objects.Laws.{consistent-apart, has-more, lacks-more}
 use Rattle.reach.specs.Reach.{reach}
 use Rattle.reach.specs.Reach.Laws.{reach-great, reach-inside, reach-snoc, reach-more}
-use Rattle.machine.specs.Checks.{Lent, State, force, reachOf, question, withQuestion, firstFailing, sessionChecks, yesChecks, noChecks}
-use Rattle.machine.specs.Checks.Laws.{passed, passed-append, Valid, valid, Stands, stands}
-use Rattle.machine.specs.Machine.{Call, step, accept as accepting, reject, follow, refute, afterMove, afterYes, afterNo, performed, checksOf, perform, run, opening, opened, openingState}
+use Rattle.machine.specs.Checks.{Lent, State, force, reachOf, question, withQuestion, firstFailing, sessionChecks, yesChecks, filingChecks}
+use Rattle.machine.specs.Checks.Laws.{passed, none-failing, passed-append, no-both, Valid, valid, Stands, stands}
+use Rattle.machine.specs.Machine.{Call, step, accept as accepting, reject, follow, refute, test, file, afterMove, afterYes, afterFiling, performed, checksOf, perform, run, opening, opened, openingState}
 use Rattle.machine.specs.Machine.Laws.{perform-cases, step-cases, opened-is}
 
 -- the sets of the background
@@ -134,8 +134,9 @@ module _ (s : State) (h : Reached s) where
         (λ o m q i. consistent-apart (withQuestion s) o (ok o m) i));
   }
 
-  pub no-reached : (o : Object) → contradicts (force s) o ≡ false → Reached (afterNo s o)
-  no-reached o ok =
+  -- one row more that does not contradict: a filing, and so a no
+  pub filed-reached : (o : Object) → contradicts (force s) o ≡ false → Reached (afterFiling s o)
+  filed-reached o ok =
       let all = all-snoc (s .rows) o (h .consistent) ok in
       record {
         over = h .over;
@@ -144,17 +145,21 @@ module _ (s : State) (h : Reached s) where
             (sound-rows (s .n) (s .background) (s .list) (h .over) (force s) (s .rows ++ (o ∷ [])) (λ p m q i. consistent-apart (force s) p (all p m) i));
       }
 
+  filing-reached : (o : Object) → firstFailing (filingChecks s o) ≡ none → Reached (afterFiling s o)
+  unfolding filingChecks
+  filing-reached o e = filed-reached o (passed (filingChecks s o) e .1 .0)
+
   performed-reached : (c : Call) → firstFailing (checksOf s c) ≡ none → Reached (performed s c .after)
-  unfolding performed checksOf yesChecks noChecks
+  unfolding performed checksOf yesChecks
   performed-reached step e = step-cases s (λ t. Reached (t .after)) (λ f. h) moved-reached (λ a b. h)
   performed-reached accepting e =
       let p = passed-append (sessionChecks s []) (yesChecks s) e .1 in
       yes-reached (stands s (not-false _ (p .0))) (anywhere-false _ (s .rows) (p .1 .0))
-  performed-reached (reject o) e =
-      let p = passed-append (sessionChecks s []) (noChecks s o) e .1 in
-      no-reached o (p .1 .1 .1 .0)
+  performed-reached (reject o) e = filing-reached o (no-both s o e .1)
   performed-reached (follow r) e = h
   performed-reached (refute r) e = h
+  performed-reached (test o) e = h
+  performed-reached (file o) e = filing-reached o (none-failing _ (passed-append (sessionChecks s []) (filingChecks s o) e .1))
 
 pub perform-reached : (s : State) (c : Call) → Reached s → Reached (perform s c .after)
 perform-reached s c h = perform-cases s c (λ t. Reached (t .after)) (performed-reached s h c) (λ r e. h)

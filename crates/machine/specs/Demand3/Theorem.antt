@@ -1,5 +1,5 @@
 -- Demand 3, points 2 to 5: after every accepted opening and every list of calls, refused ones included,
--- the rows and the list are those of the accepted replies, a finished interview decides every implication over M, the list is
+-- the rows and the list are those of the accepted replies and filings, a finished interview decides every implication over M, the list is
 -- as short as any with the same consequences, and truthful finished interviews over one complete table end in the same list.
 use mathlib.Core.Path.{_≡_, refl, sym, ap, _∙_, subst}
 use mathlib.Core.Logic.{_↔_}

@@ -8,12 +8,12 @@ use Rattle.context.specs.Places.{lowest, anywhere}
 use Rattle.context.specs.Objects.{has, excludes, lacks, refutes, firstRefuting, markedTwice, contradicts}
 use Rattle.reach.specs.Reach.{cut, narrow, reach}
 use Rattle.session.specs.Limits.{badLength}
-use Rattle.machine.specs.Checks.{standing, questionStands, firstFailing, strange, outsideM, sessionChecks, yesChecks, noChecks}
+use Rattle.machine.specs.Checks.{standing, questionStands, firstFailing, strange, outsideM, sessionChecks, yesChecks, testChecks, filingChecks}
 use Rattle.machine.specs.Machine.{performStep, refutedAt, performed, checksOf, perform, opening}
 use Rattle.machine.specs.Edges.{Edges}
 
 pub edges : Edges
-unfolding full without inside meets fire pass close closure fits nextBelow lowest anywhere passing has excludes lacks refutes firstRefuting markedTwice contradicts cut narrow reach standing questionStands firstFailing badLength strange outsideM sessionChecks yesChecks noChecks performStep refutedAt performed checksOf perform opening
+unfolding full without inside meets fire pass close closure fits nextBelow lowest anywhere passing has excludes lacks refutes firstRefuting markedTwice contradicts cut narrow reach standing questionStands firstFailing badLength strange outsideM sessionChecks yesChecks testChecks filingChecks performStep refutedAt performed checksOf perform opening
 edges = record {
   most-attributes = refl;
   too-many-attributes = refl;
@@ -58,4 +58,18 @@ edges = record {
   no-contradicts = refl;
   last-place-for-a-row = refl;
   no-place-for-a-row = refl;
+  test-refutes = refl;
+  test-contradicting = refl;
+  test-eight = refl;
+  test-nine = refl;
+  test-ten-premise = refl;
+  test-ten-conclusion = refl;
+  filed = refl;
+  filed-unasked = refl;
+  filed-at-M = refl;
+  finished-after = refl;
+  file-nine-outside = refl;
+  file-nine-twice = refl;
+  file-eleven = refl;
+  file-twelve = refl;
 }

@@ -1,6 +1,6 @@
 -- A session once opened never goes bad. After an accepted opening and any list of calls checks 1 to 7 pass (`never-bad`), so that a step is
--- not refused, a reply is refused with 8 to 12 alone, and a read-only call with 4 alone, where the rule asked about is not over M
--- (`late-refusals`). From it: a step answers Finished just where the current set is M (`finished-at-full`, `full-finished`), and Asked just
+-- not refused, a reply is refused with 8 to 12 alone, a test with 8 to 10, a filing with 9, 11 and 12, and a read-only call about a rule with 4
+-- alone, where the rule is not over M (`late-refusals`). From it: a step answers Finished just where the current set is M (`finished-at-full`, `full-finished`), and Asked just
 -- where a question stands (`asked-stands`, `stands-asked`). At the opening, 7 and the list's part of 3 and 4 cannot fail (`opening-closed`,
 -- `opening-list`).
 use mathlib.Core.Path.{_≡_, refl, sym, ap, _∙_, subst}
@@ -21,18 +21,18 @@ use Rattle.implication.specs.Closure.{closure}
 use Rattle.implication.specs.Closure.Laws.{closure-idempotent, closed-closure}
 use Rattle.context.specs.Places.{anywhere}
 use Rattle.context.specs.Places.Laws.{anywhere-false, all-anywhere}
-use Rattle.context.specs.Objects.{Object, firstRefuting}
+use Rattle.context.specs.Objects.{Object}
 use Rattle.context.specs.Objects.Laws.{contradicts-apart}
 use Rattle.session.specs.declared.Refusal.{Refusal}
 use Rattle.session.specs.Refusals.{refusal}
 use Rattle.session.specs.Limits.{mostAttributes, mostObjects, mostImplications}
-use Rattle.machine.specs.Checks.{Lent, State, Check, firstFailing, strangeObject, strangeImplication, outsideM, sessionChecks, yesChecks, noChecks, force, question}
-use Rattle.machine.specs.Checks.Laws.{or-false, passed, none-failing, failing-here, failing-later, failing-append, passed-append, InM, familiar-implication, Stands}
-use Rattle.machine.specs.Machine.{Call, step, accept, reject, follow, refute, Answer, finished, moved, asked, taken, followed, refuted, unrefuted, refused, refutedAt, afterYes, afterNo, performStep, performed, checksOf, perform, run, opening, opened, openingState}
-use Rattle.machine.specs.Machine.Laws.{perform-cases, perform-accepted, step-cases, opened-is, finished-full}
+use Rattle.machine.specs.Checks.{Lent, State, Check, firstFailing, strangeObject, strangeImplication, outsideM, sessionChecks, yesChecks, testChecks, filingChecks, noChecks, force, question}
+use Rattle.machine.specs.Checks.Laws.{or-false, passed, none-failing, failing-here, failing-later, failing-append, passed-append, no-both, InM, familiar-implication, Stands}
+use Rattle.machine.specs.Machine.{Call, step, accept, reject, follow, refute, test, file, finished, asked, refused, afterYes, afterFiling, performStep, performed, checksOf, perform, run, opening, opened, openingState}
+use Rattle.machine.specs.Machine.Laws.{perform-cases, perform-accepted, step-cases, no-refusal, performed-answers, opened-is, finished-full}
 use Rattle.machine.specs.Demand3.Invariant.{Reached, current-in, perform-reached, opened-reached}
 use Rattle.machine.specs.Facts.{Places, Fine}
-use Rattle.machine.specs.Facts.Laws.{checks-fine, fine-checks, checks-yes, checks-no}
+use Rattle.machine.specs.Facts.Laws.{checks-fine, fine-checks, checks-yes, checks-filing}
 
 -- ---- the calls keep it
 
@@ -69,6 +69,12 @@ module _ (s : State) (f : Fine s) where
   rows-fine : All (Row (s .n)) (s .rows)
   rows-fine o m = (f .rows-in o m, f .once o m)
 
+  filed-fine : (o : Object) → firstFailing (filingChecks s o) ≡ none → Reached (afterFiling s o) → Fine (afterFiling s o)
+  filed-fine o e h =
+      let y = checks-filing s o e in
+      fine-again s (afterFiling s o) f refl refl h (omega (arith, y .place, length-append (s .rows) (o ∷ []))) (f .list-places)
+      (all-snoc (s .rows) o rows-fine (y .inside, y .once))
+
   performed-fine : (c : Call) → firstFailing (checksOf s c) ≡ none → Reached (performed s c .after) → Fine (performed s c .after)
   unfolding performed checksOf
   performed-fine step e g = step-cases s (λ t. Reached (t .after) → Fine (t .after)) (λ d h. f)
@@ -76,12 +82,11 @@ module _ (s : State) (f : Fine s) where
   performed-fine accept e h =
       let y = checks-yes s (none-failing _ (passed-append (sessionChecks s []) (yesChecks s) e .1)) in
       fine-again s (afterYes s) f refl refl h (f .row-places) (omega (arith, y .place, length-append (s .list) (question s ∷ []))) rows-fine
-  performed-fine (reject o) e h =
-      let y = checks-no s o (none-failing _ (passed-append (sessionChecks s []) (noChecks s o) e .1)) in
-      fine-again s (afterNo s o) f refl refl h (omega (arith, y .place, length-append (s .rows) (o ∷ []))) (f .list-places)
-      (all-snoc (s .rows) o rows-fine (y .inside, y .once))
+  performed-fine (reject o) e h = filed-fine o (no-both s o e .1) h
   performed-fine (follow r) e h = f
   performed-fine (refute r) e h = f
+  performed-fine (test o) e h = f
+  performed-fine (file o) e h = filed-fine o (none-failing _ (passed-append (sessionChecks s []) (filingChecks s o) e .1)) h
 
 pub perform-fine : (s : State) (c : Call) → Reached s → Fine s → Fine (perform s c .after)
 perform-fine s c h f =
@@ -101,13 +106,16 @@ never-bad n lent background rows start e calls =
 
 -- ---- what is refused then
 
--- the refusals that are left: none of a step, 8 to 12 of a reply, and 4 of a rule asked about that is not over M
+-- the refusals that are left: none of a step, 8 to 12 of a reply, 4 of a rule asked about that is not over M, 8 to 10 of a test, and of a
+-- filing 9, 11 and 12
 abbrev pub LateRefusal : State → Call → Refusal → Type 0
 LateRefusal s step r = ⊥
 LateRefusal s accept r = 8 ≤ r .number
 LateRefusal s (reject o) r = 8 ≤ r .number
 LateRefusal s (follow q) r = (r ≡ refusal 4 0) × (Over words (full (s .n)) q → ⊥)
 LateRefusal s (refute q) r = (r ≡ refusal 4 0) × (Over words (full (s .n)) q → ⊥)
+LateRefusal s (test o) r = (8 ≤ r .number) × (r .number ≤ 10)
+LateRefusal s (file o) r = (9 ≤ r .number) × (r .number ≡ 10 → ⊥)
 
 -- a refusal has the number of one of the checks
 pub failing-number : (P : ℕ → Type 0) (cs : List Check) → All (λ c. P (c .number)) cs → (r : Refusal) → firstFailing cs ≡ some r → P (r .number)
@@ -122,46 +130,23 @@ failing-number P (c ∷ cs) all r e = go (c .fails) (failing-number P cs (λ x m
         subst (λ (x : Refusal). P (x .number)) same (all c (List·Memᴰ·head refl))
     go false ih h = ih h
 
--- answers that are no refusals
-abbrev pub Answers : Answer → Type 0
-Answers finished = Unit {0}
-Answers moved = Unit {0}
-Answers (asked q) = Unit {0}
-Answers taken = Unit {0}
-Answers (followed b) = Unit {0}
-Answers (refuted p) = Unit {0}
-Answers unrefuted = Unit {0}
-Answers (refused r) = ⊥
-
-pub no-refusal : (a : Answer) (r : Refusal) → Answers a → a ≡ refused r → ⊥
-no-refusal a r h e = subst Answers e h
-
-refuted-answers : (s : State) (q : Implication ℕ) → Answers (refutedAt (firstRefuting (force s) (s .rows) q) (length (s .rows)))
-unfolding refutedAt
-refuted-answers s q = go (ltb (firstRefuting (force s) (s .rows) q) (length (s .rows)))
-  where
-    go : (b : Bool) → Answers (elim b [ true ↦ refuted (firstRefuting (force s) (s .rows) q) | false ↦ unrefuted ])
-    go true = tt
-    go false = tt
-
--- what an accepted call answers
-pub performed-answers : (s : State) (c : Call) → Answers (performed s c .answer)
-unfolding performed
-performed-answers s step = step-cases s (λ t. Answers (t .answer)) (λ d. tt) (λ n d. tt) (λ n d. tt)
-performed-answers s accept = tt
-performed-answers s (reject o) = tt
-performed-answers s (follow q) = tt
-performed-answers s (refute q) = refuted-answers s q
-
 module _ (s : State) (f : Fine s) where
   yes-late : (r : Refusal) → firstFailing (yesChecks s) ≡ some r → 8 ≤ r .number
   unfolding yesChecks
   yes-late = failing-number (λ k. 8 ≤ k) (yesChecks s) (all-cons (omega arith) (all-cons (omega arith) (all-cons (omega arith) (all-nil _))))
 
+  test-numbers : (o : Object) → All (λ x. (8 ≤ x .number) × (x .number ≤ 10)) (testChecks s o)
+  unfolding testChecks
+  test-numbers o = all-cons (omega arith, omega arith) (all-cons (omega arith, omega arith) (all-cons (omega arith, omega arith) (all-nil _)))
+
+  filing-numbers : (o : Object) → All (λ x. (9 ≤ x .number) × (x .number ≡ 10 → ⊥)) (filingChecks s o)
+  unfolding filingChecks
+  filing-numbers o =
+      all-cons (omega arith, λ e. omega arith) (all-cons (omega arith, λ e. omega arith) (all-cons (omega arith, λ e. omega arith) (all-nil _)))
+
   no-late : (o : Object) (r : Refusal) → firstFailing (noChecks s o) ≡ some r → 8 ≤ r .number
-  unfolding noChecks
   no-late o = failing-number (λ k. 8 ≤ k) (noChecks s o)
-      (all-cons (omega arith) (all-cons (omega arith) (all-cons (omega arith) (all-cons (omega arith) (all-cons (omega arith) (all-nil _))))))
+      (all-append (testChecks s o) (filingChecks s o) (λ x m. test-numbers o x m .0) (λ x m. let h = filing-numbers o x m .0 in omega arith))
 
   fine-passed : firstFailing (sessionChecks s []) ≡ none
   fine-passed = fine-checks s [] f (all-nil _)
@@ -195,6 +180,12 @@ module _ (s : State) (f : Fine s) where
   late-by-call (reject o) r e = no-late o r (sym (failing-append (sessionChecks s []) (noChecks s o) (passed _ fine-passed)) ∙ e)
   late-by-call (follow q) r e = asked-late q r e
   late-by-call (refute q) r e = asked-late q r e
+  late-by-call (test o) r e =
+      failing-number (λ k. (8 ≤ k) × (k ≤ 10)) (testChecks s o) (test-numbers o) r
+      (sym (failing-append (sessionChecks s []) (testChecks s o) (passed _ fine-passed)) ∙ e)
+  late-by-call (file o) r e =
+      failing-number (λ k. (9 ≤ k) × (k ≡ 10 → ⊥)) (filingChecks s o) (filing-numbers o) r
+      (sym (failing-append (sessionChecks s []) (filingChecks s o) (passed _ fine-passed)) ∙ e)
 
   pub late-refusals : (c : Call) (r : Refusal) → perform s c .answer ≡ refused r → LateRefusal s c r
   late-refusals c r =

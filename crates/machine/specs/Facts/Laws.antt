@@ -1,7 +1,10 @@
 -- The checks both ways: checks 1 to 7 pass just where `Fine` holds and the rule asked about is over M (`checks-fine`, `fine-checks`);
--- those of a yes just where `YesFits` holds (`checks-yes`, `yes-checks`), those of a no just where `NoFits` does (`checks-no`,
--- `no-checks`). So a reply is taken just where both hold (`yes-taken`, `taken-yes`, `no-taken`, `taken-no`).
-use mathlib.Core.Path.{_≡_, refl, ap, _∙_}
+-- those of a yes just where `YesFits` holds (`checks-yes`, `yes-checks`), those of a test just where `TestFits` does (`checks-test`,
+-- `test-checks`), those of a filing just where `FilingFits` does (`checks-filing`, `filing-checks`), and a no fits just where both do
+-- (`both-fit`, `fits-both`). So a reply is taken just where it fits (`yes-taken`, `taken-yes`, `no-taken`, `taken-no`), a test answers that the
+-- row refutes just where it fits (`test-refuting`, `refuting-test`; `test-ten`), and a filing is taken just where it fits (`filing-taken`,
+-- `taken-filing`).
+use mathlib.Core.Path.{_≡_, refl, sym, ap, _∙_, subst}
 use mathlib.Core.Bool.{Bool, true, false, not, _||_}
 use mathlib.Core.List.{List, [], _++_}
 use mathlib.Core.Option.{none}
@@ -13,20 +16,20 @@ use borrow.Author.Tests.{eqb-true, eqb-false, eq-eqb, not-false, ltb-false, le-l
 use Rattle.theory.specs.Lists.{All}
 use Rattle.theory.specs.Lists.Laws.{all-nil, all-append, all-drop}
 use Rattle.theory.specs.Implications.{Implication, Over}
-use Rattle.attribute_set.specs.Sets.{inside, full}
+use Rattle.attribute_set.specs.Sets.{Apart, inside, full}
 use Rattle.attribute_set.specs.Sets.Laws.{sub-inside}
 use Rattle.attribute_set.specs.Words.{words}
 use Rattle.context.specs.Places.{anywhere}
 use Rattle.context.specs.Places.Laws.{anywhere-false, all-anywhere}
-use Rattle.context.specs.Objects.{Object}
+use Rattle.context.specs.Objects.{Object, refutes}
 use Rattle.context.specs.Objects.Laws.{marked-apart, apart-marked, contradicts-apart, apart-contradicts}
-use Rattle.session.specs.declared.Refusal.{Refusal}
+use Rattle.session.specs.Refusals.{refusal}
 use Rattle.session.specs.Limits.{mostObjects, mostImplications, badLength}
-use Rattle.machine.specs.Checks.{State, firstFailing, strange, strangeObject, strangeImplication, outsideM, sessionChecks, yesChecks, noChecks, force, questionStands, withQuestion, whole, tight, open-question}
-use Rattle.machine.specs.Checks.Laws.{or-false, passed, none-failing, failing-append, passed-append, InM, valid, familiar-object, familiar-implication, standing-cases, Stands, stands}
-use Rattle.machine.specs.Machine.{Call, accept, reject, taken, refused, performed, checksOf, perform}
-use Rattle.machine.specs.Machine.Laws.{perform-cases, perform-accepted}
-use Rattle.machine.specs.Facts.{Places, Fine, YesFits, NoFits}
+use Rattle.machine.specs.Checks.{State, firstFailing, strange, strangeObject, strangeImplication, outsideM, sessionChecks, yesChecks, badRow, testChecks, filingChecks, noChecks, force, question, questionStands, withQuestion, whole, tight, open-question}
+use Rattle.machine.specs.Checks.Laws.{or-false, passed, none-failing, failing-here, failing-later, failing-append, passed-append, no-both, InM, valid, familiar-object, familiar-implication, standing-cases, Stands, stands}
+use Rattle.machine.specs.Machine.{Call, accept, reject, test, file, taken, refuting, refused, performed, checksOf, perform}
+use Rattle.machine.specs.Machine.Laws.{perform-accepted, perform-refused, Answers, answered-passing}
+use Rattle.machine.specs.Facts.{Places, Fine, YesFits, TestFits, FilingFits, NoFits}
 
 or-both : (a b : Bool) → a ≡ false → b ≡ false → (a || b) ≡ false
 or-both false b e f = f
@@ -127,36 +130,70 @@ module _ (s : State) where
       none-failing (yesChecks s) (standing-question s (f .stands), (eleven, (lt-leb _ _ (f .place), tt)))
 
   module _ (o : Object) where
-    pub checks-no : firstFailing (noChecks s o) ≡ none → NoFits s o
-    unfolding noChecks
-    checks-no e =
-        let p = passed (noChecks s o) e in
+    pub checks-test : firstFailing (testChecks s o) ≡ none → TestFits s o
+    unfolding testChecks
+    checks-test e =
+        let p = passed (testChecks s o) e in
         let nine = or-false (strangeObject (s .n) o) _ (p .1 .0) in
         record {
           stands = stands s (not-false _ (p .0));
           inside = familiar-object (s .n) o (nine .0);
           once = marked-apart o (nine .1);
           refuting = not-false _ (p .1 .1 .0);
-          consistent = contradicts-apart (force s) o (p .1 .1 .1 .0);
-          place = leb-false _ _ (p .1 .1 .1 .1 .0);
         }
 
+    good-row : InM (s .n) o → Apart (o .yes-marks) (o .no-marks) → badRow (s .n) o ≡ false
+    good-row i a = or-both _ _ (in-object (s .n) o i) (apart-marked o a)
+
+    pub test-checks : TestFits s o → firstFailing (testChecks s o) ≡ none
+    unfolding testChecks
+    test-checks f =
+        none-failing (testChecks s o) (standing-question s (f .stands), (good-row (f .inside) (f .once), (ap not (f .refuting), tt)))
+
+    pub checks-filing : firstFailing (filingChecks s o) ≡ none → FilingFits s o
+    unfolding filingChecks
+    checks-filing e =
+        let p = passed (filingChecks s o) e in
+        let nine = or-false (strangeObject (s .n) o) _ (p .0) in
+        record {
+          inside = familiar-object (s .n) o (nine .0);
+          once = marked-apart o (nine .1);
+          consistent = contradicts-apart (force s) o (p .1 .0);
+          place = leb-false _ _ (p .1 .1 .0);
+        }
+
+    pub filing-checks : FilingFits s o → firstFailing (filingChecks s o) ≡ none
+    unfolding filingChecks
+    filing-checks f =
+        none-failing (filingChecks s o) (good-row (f .inside) (f .once), (apart-contradicts (force s) o (f .consistent), (lt-leb _ _ (f .place), tt)))
+
+    -- a no fits where the test and the filing do
+    pub both-fit : TestFits s o → FilingFits s o → NoFits s o
+    both-fit t f = record {
+      stands = t .stands;
+      inside = t .inside;
+      once = t .once;
+      refuting = t .refuting;
+      consistent = f .consistent;
+      place = f .place;
+    }
+
+    pub fits-both : NoFits s o → TestFits s o × FilingFits s o
+    fits-both f = (
+      record { stands = f .stands; inside = f .inside; once = f .once; refuting = f .refuting },
+      record { inside = f .inside; once = f .once; consistent = f .consistent; place = f .place },
+    )
+
     pub no-checks : NoFits s o → firstFailing (noChecks s o) ≡ none
-    unfolding noChecks
     no-checks f =
-        let nine = or-both _ _ (in-object (s .n) o (f .inside)) (apart-marked o (f .once)) in
-        none-failing (noChecks s o)
-        (standing-question s (f .stands), (nine, (ap not (f .refuting), (apart-contradicts (force s) o (f .consistent), (lt-leb _ _ (f .place), tt)))))
+        let t = fits-both f in
+        failing-append (testChecks s o) (filingChecks s o) (passed _ (test-checks (t .0))) ∙ filing-checks (t .1)
 
 -- ---- an accepted reply
 
-not-refused : (r : Refusal) → refused r ≡ taken → ⊥
-not-refused r e = let z : _≡_ {A = ℕ} 0 1 = cc in omega arith
-
 -- what is taken has passed its checks
 taken-passed : (s : State) (c : Call) → perform s c .answer ≡ taken → firstFailing (checksOf s c) ≡ none
-taken-passed s c =
-    perform-cases s c (λ t. t .answer ≡ taken → firstFailing (checksOf s c) ≡ none) (λ e h. e) (λ r e h. absurd (not-refused r h))
+taken-passed s c h = answered-passing s c (subst Answers (sym h) tt)
 
 module _ (s : State) where
   pub taken-yes : perform s accept .answer ≡ taken → Fine s × YesFits s
@@ -175,11 +212,51 @@ module _ (s : State) where
     pub taken-no : perform s (reject o) .answer ≡ taken → Fine s × NoFits s o
     unfolding checksOf
     taken-no h =
-        let p = passed-append (sessionChecks s []) (noChecks s o) (taken-passed s (reject o) h) in
-        (checks-fine s [] (none-failing _ (p .0)) .0, checks-no s o (none-failing _ (p .1)))
+        let e = taken-passed s (reject o) h in
+        let both = no-both s o e in (
+          checks-fine s [] (none-failing _ (passed-append (sessionChecks s []) (noChecks s o) e .0)) .0,
+          both-fit s o (checks-test s o (both .0)) (checks-filing s o (both .1)),
+        )
 
     pub no-taken : Fine s → NoFits s o → perform s (reject o) .answer ≡ taken
     unfolding checksOf performed
     no-taken f y =
         let e = failing-append (sessionChecks s []) (noChecks s o) (passed _ (fine-checks s [] f (all-nil _))) ∙ no-checks s o y in
         ap (λ t. t .answer) (perform-accepted s (reject o) e)
+
+    -- ---- a test
+
+    pub refuting-test : perform s (test o) .answer ≡ refuting → Fine s × TestFits s o
+    unfolding checksOf
+    refuting-test h =
+        let p = passed-append (sessionChecks s []) (testChecks s o) (answered-passing s (test o) (subst Answers (sym h) tt)) in
+        (checks-fine s [] (none-failing _ (p .0)) .0, checks-test s o (none-failing _ (p .1)))
+
+    pub test-refuting : Fine s → TestFits s o → perform s (test o) .answer ≡ refuting
+    unfolding checksOf performed
+    test-refuting f y =
+        let e = failing-append (sessionChecks s []) (testChecks s o) (passed _ (fine-checks s [] f (all-nil _))) ∙ test-checks s o y in
+        ap (λ t. t .answer) (perform-accepted s (test o) e)
+
+    -- where a question stands a row over M that does not refute it gets 10
+    pub test-ten : Fine s → Stands s → InM (s .n) o → Apart (o .yes-marks) (o .no-marks) → refutes (force s) o (question s) ≡ false
+        → perform s (test o) .answer ≡ refused (refusal 10 0)
+    unfolding checksOf testChecks
+    test-ten f t i a spares =
+        let e = failing-append (sessionChecks s []) (testChecks s o) (passed _ (fine-checks s [] f (all-nil _)))
+        ∙ failing-later _ _ (standing-question s t) ∙ failing-later _ _ (good-row s o i a) ∙ failing-here _ _ (ap not spares) in
+        ap (λ t. t .answer) (perform-refused s (test o) _ e)
+
+    -- ---- a filing: whether a question stands, and whether the row refutes it, is not asked
+
+    pub taken-filing : perform s (file o) .answer ≡ taken → Fine s × FilingFits s o
+    unfolding checksOf
+    taken-filing h =
+        let p = passed-append (sessionChecks s []) (filingChecks s o) (taken-passed s (file o) h) in
+        (checks-fine s [] (none-failing _ (p .0)) .0, checks-filing s o (none-failing _ (p .1)))
+
+    pub filing-taken : Fine s → FilingFits s o → perform s (file o) .answer ≡ taken
+    unfolding checksOf performed
+    filing-taken f y =
+        let e = failing-append (sessionChecks s []) (filingChecks s o) (passed _ (fine-checks s [] f (all-nil _))) ∙ filing-checks s o y in
+        ap (λ t. t .answer) (perform-accepted s (file o) e)

@@ -17,10 +17,10 @@ use Rattle.context.specs.Places.Laws.{lowest-at}
 use Rattle.context.specs.Objects.{Object, markedTwice, contradicts}
 use Rattle.session.specs.declared.Refusal.{Refusal}
 use Rattle.session.specs.Refusals.{refusal}
-use Rattle.machine.specs.Checks.{Lent, State, Check, firstFailing, sessionChecks, yesChecks, noChecks, force, withQuestion}
-use Rattle.machine.specs.Machine.{Call, step, accept, reject, follow, refute, refused, checksOf, perform, Opening, opened, rejected, opening, openingState}
-use Rattle.machine.specs.Machine.Laws.{perform-cases}
-use Rattle.machine.specs.Facts.Kept.{no-refusal, performed-answers, failing-number}
+use Rattle.machine.specs.Checks.{Lent, State, Check, firstFailing, sessionChecks, yesChecks, testChecks, filingChecks, force, withQuestion}
+use Rattle.machine.specs.Machine.{Call, step, accept, reject, follow, refute, test, file, refused, checksOf, perform, Opening, opened, rejected, opening, openingState}
+use Rattle.machine.specs.Machine.Laws.{refused-failing}
+use Rattle.machine.specs.Facts.Kept.{failing-number}
 
 -- the lowest place of a list at which a test holds
 pub record Lowest {A : Type 0} (f : A → Bool) (l : List A) (place : ℕ) : Type 0 where
@@ -86,26 +86,39 @@ yes-places s =
 no-is-no-yes : (o : Object) → reject o ≡ accept → ⊥
 no-is-no-yes o e = let z : _≡_ {A = ℕ} 0 1 = cc in omega arith
 
-no-places : (s : State) (o : Object) → All (λ x. x .fails ≡ true → RightPlace s (reject o) (refusal (x .number) (x .place))) (noChecks s o)
-unfolding noChecks
-no-places s o =
-    let at : (k : ℕ) → 7 < k → RightPlace s (reject o) (refusal k 0) = λ k h. late s (reject o) k h (λ e _. no-is-no-yes o e) in
-    all-cons (λ _. at 8 (omega arith)) (all-cons (λ _. at 9 (omega arith)) (all-cons (λ _. at 10 (omega arith)) (all-cons (λ _. at 11 (omega arith))
-    (all-cons (λ _. at 12 (omega arith)) (all-nil _)))))
+test-is-no-yes : (o : Object) → test o ≡ accept → ⊥
+test-is-no-yes o e = let z : _≡_ {A = ℕ} 0 1 = cc in omega arith
+
+filing-is-no-yes : (o : Object) → file o ≡ accept → ⊥
+filing-is-no-yes o e = let z : _≡_ {A = ℕ} 0 1 = cc in omega arith
+
+-- of a test, a filing and a no, calls that are no yes: every place is 0
+module _ (s : State) (c : Call) (other : c ≡ accept → ⊥) (o : Object) where
+  at : (k : ℕ) → 7 < k → RightPlace s c (refusal k 0)
+  at k h = late s c k h (λ e _. other e)
+
+  test-places : All (λ x. x .fails ≡ true → RightPlace s c (refusal (x .number) (x .place))) (testChecks s o)
+  unfolding testChecks
+  test-places = all-cons (λ _. at 8 (omega arith)) (all-cons (λ _. at 9 (omega arith)) (all-cons (λ _. at 10 (omega arith)) (all-nil _)))
+
+  filing-places : All (λ x. x .fails ≡ true → RightPlace s c (refusal (x .number) (x .place))) (filingChecks s o)
+  unfolding filingChecks
+  filing-places = all-cons (λ _. at 9 (omega arith)) (all-cons (λ _. at 11 (omega arith)) (all-cons (λ _. at 12 (omega arith)) (all-nil _)))
 
 all-places : (s : State) (c : Call) → All (λ x. x .fails ≡ true → RightPlace s c (refusal (x .number) (x .place))) (checksOf s c)
 unfolding checksOf
 all-places s step = session-places s step []
 all-places s accept = all-append (sessionChecks s []) (yesChecks s) (session-places s accept []) (yes-places s)
-all-places s (reject o) = all-append (sessionChecks s []) (noChecks s o) (session-places s (reject o) []) (no-places s o)
+all-places s (reject o) =
+    let other = no-is-no-yes o in
+    all-append (sessionChecks s []) _ (session-places s (reject o) [])
+    (all-append (testChecks s o) (filingChecks s o) (test-places s (reject o) other o) (filing-places s (reject o) other o))
 all-places s (follow q) = session-places s (follow q) (q ∷ [])
 all-places s (refute q) = session-places s (refute q) (q ∷ [])
-
--- a refused call is refused by the first of its checks that fails
-refused-failing : (s : State) (c : Call) (r : Refusal) → perform s c .answer ≡ refused r → firstFailing (checksOf s c) ≡ some r
-refused-failing s c r =
-    perform-cases s c (λ t. t .answer ≡ refused r → firstFailing (checksOf s c) ≡ some r) (λ e h. absurd (no-refusal _ r (performed-answers s c) h))
-    (λ x e h. let same : x ≡ r = cc in e ∙ ap some same)
+all-places s (test o) =
+    all-append (sessionChecks s []) (testChecks s o) (session-places s (test o) []) (test-places s (test o) (test-is-no-yes o) o)
+all-places s (file o) =
+    all-append (sessionChecks s []) (filingChecks s o) (session-places s (file o) []) (filing-places s (file o) (filing-is-no-yes o) o)
 
 pub right-place : (s : State) (c : Call) (r : Refusal) → perform s c .answer ≡ refused r → RightPlace s c r
 right-place s c r h = failing-check (RightPlace s c) (checksOf s c) (all-places s c) r (refused-failing s c r h)
@@ -125,9 +138,13 @@ yes-numbers : (s : State) → All (λ x. Between 1 12 (x .number)) (yesChecks s)
 unfolding yesChecks
 yes-numbers s = all-cons (omega arith) (all-cons (omega arith) (all-cons (omega arith) (all-nil _)))
 
-no-numbers : (s : State) (o : Object) → All (λ x. Between 1 12 (x .number)) (noChecks s o)
-unfolding noChecks
-no-numbers s o = all-cons (omega arith) (all-cons (omega arith) (all-cons (omega arith) (all-cons (omega arith) (all-cons (omega arith) (all-nil _)))))
+test-numbers : (s : State) (o : Object) → All (λ x. Between 1 12 (x .number)) (testChecks s o)
+unfolding testChecks
+test-numbers s o = all-cons (omega arith) (all-cons (omega arith) (all-cons (omega arith) (all-nil _)))
+
+filing-numbers : (s : State) (o : Object) → All (λ x. Between 1 12 (x .number)) (filingChecks s o)
+unfolding filingChecks
+filing-numbers s o = all-cons (omega arith) (all-cons (omega arith) (all-cons (omega arith) (all-nil _)))
 
 all-numbers : (s : State) (c : Call) → All (λ x. Between 1 12 (x .number)) (checksOf s c)
 unfolding checksOf
@@ -139,9 +156,12 @@ all-numbers s c = go c
     go : (d : Call) → All (λ x. Between 1 12 (x .number)) (checksOf s d)
     go step = early []
     go accept = all-append (sessionChecks s []) (yesChecks s) (early []) (yes-numbers s)
-    go (reject o) = all-append (sessionChecks s []) (noChecks s o) (early []) (no-numbers s o)
+    go (reject o) =
+        all-append (sessionChecks s []) _ (early []) (all-append (testChecks s o) (filingChecks s o) (test-numbers s o) (filing-numbers s o))
     go (follow q) = early (q ∷ [])
     go (refute q) = early (q ∷ [])
+    go (test o) = all-append (sessionChecks s []) (testChecks s o) (early []) (test-numbers s o)
+    go (file o) = all-append (sessionChecks s []) (filingChecks s o) (early []) (filing-numbers s o)
 
 pub small-number : (s : State) (c : Call) (r : Refusal) → perform s c .answer ≡ refused r → Between 1 12 (r .number)
 small-number s c r h = failing-number (Between 1 12) (checksOf s c) (all-numbers s c) r (refused-failing s c r h)

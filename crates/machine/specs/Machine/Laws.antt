@@ -1,16 +1,20 @@
--- A call by cases: what it does where its checks pass, and a refusal, which leaves the state as it is; a step by cases.
-use mathlib.Core.Path.{_≡_, refl}
+-- A call by cases: what it does where its checks pass, and a refusal, which leaves the state as it is; a step by cases. A refused call is
+-- refused by the first of its checks that fails (`refused-failing`), and one that is not refused passes them (`answered-passing`).
+use mathlib.Core.Path.{_≡_, refl, ap, _∙_, subst}
+use mathlib.Core.Bool.{Bool, true, false}
 use mathlib.Core.List.{List, []}
 use mathlib.Core.Option.{Option, none, some}
 use Prim.Native.Nat.{ℕ}
 use native.Mathlib.Omega.{arith}
+use lib.ListN.{length}
+use lib.Dec.{ltb}
 use Rattle.theory.specs.Implications.{Implication}
 use Rattle.attribute_set.specs.Sets.{full}
-use Rattle.context.specs.Objects.{Object}
+use Rattle.context.specs.Objects.{Object, firstRefuting}
 use Rattle.session.specs.declared.Refusal.{Refusal}
-use Rattle.machine.specs.Checks.{Lent, State, firstFailing, sessionChecks, reachOf, whole, tight, open-question, question}
+use Rattle.machine.specs.Checks.{Lent, State, firstFailing, sessionChecks, force, reachOf, whole, tight, open-question, question}
 use Rattle.machine.specs.Checks.Laws.{standing-cases}
-use Rattle.machine.specs.Machine.{Call, step, finished, moved, asked, refused, Turn, turn, afterMove, performStep, performed, checksOf, perform, Opening, opened, rejected, opening, openingState}
+use Rattle.machine.specs.Machine.{Call, step, accept, reject, follow, refute, test, file, Answer, finished, moved, asked, taken, followed, refuted, unrefuted, refuting, refused, Turn, turn, afterMove, refutedAt, performStep, performed, checksOf, perform, Opening, opened, rejected, opening, openingState}
 
 module _ (s : State) (c : Call) where
   pub perform-cases : (P : Turn → Type 0) → (firstFailing (checksOf s c) ≡ none → P (performed s c))
@@ -59,6 +63,54 @@ module _ (s : State) where
       (λ e. step-cases (λ t. t .answer ≡ finished → s .current ≡ full (s .n)) (λ f h. f)
       (λ n f h. absurd (not-finished-moved h)) (λ n f h. absurd (not-finished-asked _ h)))
       (λ r e h. absurd (not-finished-refused r h))
+
+-- ---- refusals
+
+-- answers that are no refusals
+abbrev pub Answers : Answer → Type 0
+Answers finished = Unit {0}
+Answers moved = Unit {0}
+Answers (asked q) = Unit {0}
+Answers taken = Unit {0}
+Answers (followed b) = Unit {0}
+Answers (refuted p) = Unit {0}
+Answers unrefuted = Unit {0}
+Answers refuting = Unit {0}
+Answers (refused r) = ⊥
+
+pub no-refusal : (a : Answer) (r : Refusal) → Answers a → a ≡ refused r → ⊥
+no-refusal a r h e = subst Answers e h
+
+refuted-answers : (s : State) (q : Implication ℕ) → Answers (refutedAt (firstRefuting (force s) (s .rows) q) (length (s .rows)))
+unfolding refutedAt
+refuted-answers s q = go (ltb (firstRefuting (force s) (s .rows) q) (length (s .rows)))
+  where
+    go : (b : Bool) → Answers (elim b [ true ↦ refuted (firstRefuting (force s) (s .rows) q) | false ↦ unrefuted ])
+    go true = tt
+    go false = tt
+
+-- what an accepted call answers
+pub performed-answers : (s : State) (c : Call) → Answers (performed s c .answer)
+unfolding performed
+performed-answers s step = step-cases s (λ t. Answers (t .answer)) (λ d. tt) (λ n d. tt) (λ n d. tt)
+performed-answers s accept = tt
+performed-answers s (reject o) = tt
+performed-answers s (follow q) = tt
+performed-answers s (refute q) = refuted-answers s q
+performed-answers s (test o) = tt
+performed-answers s (file o) = tt
+
+-- a refused call is refused by the first of its checks that fails
+pub refused-failing : (s : State) (c : Call) (r : Refusal) → perform s c .answer ≡ refused r → firstFailing (checksOf s c) ≡ some r
+refused-failing s c r =
+    perform-cases s c (λ t. t .answer ≡ refused r → firstFailing (checksOf s c) ≡ some r) (λ e h. absurd (no-refusal _ r (performed-answers s c) h))
+    (λ x e h. let same : x ≡ r = cc in e ∙ ap some same)
+
+-- a call that is not refused passes its checks
+pub answered-passing : (s : State) (c : Call) → Answers (perform s c .answer) → firstFailing (checksOf s c) ≡ none
+answered-passing s c = perform-cases s c (λ t. Answers (t .answer) → firstFailing (checksOf s c) ≡ none) (λ e h. e) (λ r e h. absurd h)
+
+-- ---- the opening
 
 -- an accepted opening leaves the state that it says, and passes the checks
 pub opened-is : (n : ℕ) (lent : Lent) (background : List (Implication ℕ)) (rows : List Object) (s : State)

@@ -1,5 +1,5 @@
--- The rows of a run are those at its start, then the offered objects of the accepted no calls in order; its list is the list
--- at its start, then the questions of the accepted yes calls in order. n, lent lengths and background stay as they are.
+-- The rows of a run are those at its start, then the offered objects of the accepted no calls and filings in order; its list
+-- is the list at its start, then the questions of the accepted yes calls in order. n, lent lengths and background stay as they are.
 -- All for every state and every list of calls.
 use mathlib.Core.Path.{_≡_, refl, sym, ap, _∙_}
 use mathlib.Core.Bool.{Bool, true, false}
@@ -11,7 +11,7 @@ use borrow.Author.Tests.{not-false}
 use Rattle.implication.specs.Closure.{follows}
 use Rattle.machine.specs.Checks.{State, force, question, firstFailing, sessionChecks, yesChecks}
 use Rattle.machine.specs.Checks.Laws.{passed-append, none-failing, Stands, stands}
-use Rattle.machine.specs.Machine.{Call, step, accept, reject, follow, refute, Answer, finished, moved, asked, followed, refuted, unrefuted, refused, Turn, turn, performed, checksOf, perform, run, refutedAt}
+use Rattle.machine.specs.Machine.{Call, step, accept, reject, follow, refute, test, file, Answer, finished, moved, asked, followed, refuted, unrefuted, refuting, refused, Turn, turn, performed, checksOf, perform, run, refutedAt}
 use Rattle.machine.specs.Machine.Laws.{perform-cases, perform-accepted, step-cases}
 use Rattle.machine.specs.Replies.{Reply, agreed, offered, askedBy, questionAt, isTaken, agreedTo, madeBy, replyOf, replies, agreedIn, offeredIn}
 
@@ -33,6 +33,8 @@ perform-same s c = perform-cases s c (λ t. Same s (t .after)) (λ e. performed-
     performed-same (reject o) = record { n = refl; lent = refl; background = refl }
     performed-same (follow r) = record { n = refl; lent = refl; background = refl }
     performed-same (refute r) = record { n = refl; lent = refl; background = refl }
+    performed-same (test o) = record { n = refl; lent = refl; background = refl }
+    performed-same (file o) = record { n = refl; lent = refl; background = refl }
 
 pub run-same : (s : State) (calls : List Call) → Same s (run s calls)
 unfolding run
@@ -106,6 +108,8 @@ performed-adds s accept e =
 performed-adds s (reject o) e = record { rows = refl; list = sym (append-nil (s .list)) }
 performed-adds s (follow r) e = adds-nothing s (follow r) (followed (follows (force s) r)) s refl refl refl
 performed-adds s (refute r) e = adds-nothing s (refute r) _ s (refuted-untaken _ _) refl refl
+performed-adds s (test o) e = adds-nothing s (test o) refuting s refl refl refl
+performed-adds s (file o) e = record { rows = refl; list = sym (append-nil (s .list)) }
 
 pub perform-adds : (s : State) (c : Call) → Adds s c (perform s c)
 unfolding isTaken

@@ -8,9 +8,9 @@ use native.Mathlib.Omega.{arith}
 use lib.ListN.{drop}
 use Rattle.session.specs.declared.Refusal.{Refusal}
 use Rattle.context.specs.Objects.{Object}
-use Rattle.machine.specs.Checks.{State, Check, check, firstFailing, sessionChecks, yesChecks, noChecks, Standing, whole, tight, open-question, standing, questionStands}
+use Rattle.machine.specs.Checks.{State, Check, check, firstFailing, sessionChecks, yesChecks, testChecks, Standing, whole, tight, open-question, standing, questionStands}
 use Rattle.machine.specs.Checks.Laws.{passed, failing-first, failing-append}
-use Rattle.machine.specs.Machine.{Call, accept, reject, checksOf}
+use Rattle.machine.specs.Machine.{Call, accept, test, checksOf}
 use Rattle.standing.specs.declared.Question.{Question}
 use Rattle.standing.specs.declared.Standing.{Standing as Found}
 use Rattle.standing.specs.declared.Standing.the-variants.{Refused, Full, Tight, Open}
@@ -61,9 +61,9 @@ pub yes-found : (s : State) → asking s accept ≡ askingFrom (drop 1 (yesCheck
 unfolding checksOf yesChecks
 yes-found s = asking-found s accept (drop 1 (yesChecks s)) refl
 
-pub no-found : (s : State) (o : Object) → asking s (reject o) ≡ askingFrom (drop 1 (noChecks s o)) (found s)
-unfolding checksOf noChecks
-no-found s o = asking-found s (reject o) (drop 1 (noChecks s o)) refl
+pub test-found : (s : State) (o : Object) → asking s (test o) ≡ askingFrom (drop 1 (testChecks s o)) (found s)
+unfolding checksOf testChecks
+test-found s o = asking-found s (test o) (drop 1 (testChecks s o)) refl
 
 -- the question of a reply is the machine's, and the checks of the reply pass; a refusal is that of its checks
 module _ (s : State) (c : Call) where

@@ -10,7 +10,7 @@ use Rattle.implication.specs.Pairs.Laws.{length-pairs}
 use Rattle.implication.specs.Closure.{implication}
 use Rattle.context.specs.Objects.{object, objectsOf}
 use Rattle.machine.specs.Checks.{Lent, State}
-use Rattle.machine.specs.Machine.{Call, step, accept, reject, follow, refute, perform, run}
+use Rattle.machine.specs.Machine.{Call, step, accept, reject, follow, refute, test, file, perform, run}
 use Rattle.machine.specs.Facts.{Fine}
 use Rattle.machine.specs.Facts.Kept.{never-bad}
 use Rattle.answer_words.specs.Codes.{coded}
@@ -89,6 +89,8 @@ every-call accept ws = three-more 1 0 0 ws
 every-call (reject o) ws = three-more 2 (o .yes-marks) (o .no-marks) ws
 every-call (follow r) ws = three-more 3 (r .premise) (r .conclusion) ws
 every-call (refute r) ws = three-more 4 (r .premise) (r .conclusion) ws
+every-call (test o) ws = three-more 5 (o .yes-marks) (o .no-marks) ws
+every-call (file o) ws = three-more 6 (o .yes-marks) (o .no-marks) ws
 
 pub every-log : (cs : List Call) → known (logOf (logWordsOf cs)) ≡ cs
 unfolding known callsOf

@@ -1,5 +1,6 @@
--- An accepted reply finds a place; what the record and the lent words hold after it.
-use mathlib.Core.Path.{_≡_, ap, _∙_}
+-- An accepted yes finds a place; what the record and the lent words hold after an accepted reply or filing, and after a refused one
+-- (`refused-turns`).
+use mathlib.Core.Path.{_≡_, refl, sym, ap, _∙_, subst}
 use mathlib.Core.List.{List, [], _∷_, _++_}
 use mathlib.Core.Option.{none}
 use Prim.Native.Nat.{ℕ, _+_, _*_, _/_, _≤_, _<_, min}
@@ -8,15 +9,19 @@ use native.Mathlib.Omega.{arith}
 use lib.ListN.{length, set, length-set}
 use borrow.Author.Tests.{leb-false}
 use Rattle.session.specs.declared.Session.{Session}
+use Rattle.session.specs.declared.Refusal.{Refusal}
 use Rattle.theory.specs.Implications.{Implication}
 use Rattle.implication.specs.Pairs.Laws.{pairs-put}
 use Rattle.implication.specs.Closure.{implication, implicationsOf, allImplications, inForce}
 use Rattle.next_set.specs.Next.{next}
-use Rattle.context.specs.Objects.{Object, object, objectsOf}
-use Rattle.machine.specs.Checks.{State, firstFailing, sessionChecks, yesChecks, noChecks}
+use Rattle.context.specs.Objects.{object, objectsOf}
+use Rattle.machine.specs.Checks.{State, firstFailing, sessionChecks, yesChecks}
 use Rattle.machine.specs.Checks.Laws.{passed-append, none-failing, checked-small}
-use Rattle.machine.specs.Machine.{accept, reject, agreeing, afterNo, checksOf}
-use Rattle.machine.specs.Calls.{stateOf}
+use Rattle.machine.specs.Machine.{Call, accept, Answer, refused, Turn, turn, agreeing, afterFiling, checksOf, perform}
+use Rattle.machine.specs.Calls.{stateOf, TurnedFrom}
+use Rattle.machine.specs.Calls.Laws.{performs, turns, rows-kept, list-kept}
+use Rattle.session_replies.specs.declared.Replied.{Replied}
+use Rattle.session_replies.specs.Answers.{replyAnswer, refusedWith}
 
 -- an accepted reply finds a place, and n is at most 64
 module _ (s : State) where
@@ -25,10 +30,6 @@ module _ (s : State) where
   yes-small e =
       let p = passed-append (sessionChecks s []) (yesChecks s) e in
       (checked-small s [] (none-failing (sessionChecks s []) (p .0)) .0, leb-false _ _ (p .1 .1 .1 .0))
-
-  pub no-small : (o : Object) → firstFailing (checksOf s (reject o)) ≡ none → length (s .rows) < s .lent .rows / 2
-  unfolding checksOf noChecks
-  no-small o e = let p = passed-append (sessionChecks s []) (noChecks s o) e in leb-false _ _ (p .1 .1 .1 .1 .1 .0)
 
 module _ (x : Session) (rows list background : List ℕ) (a b : ℕ) where
   abbrev before : State
@@ -59,10 +60,10 @@ module _ (x : Session) (rows list background : List ℕ) (a b : ℕ) where
       limit : min (x .n) 64 ≡ x .n
       limit = omega arith
 
-  pub no-holds : x .rows * 2 + 1 < length rows
+  pub filing-holds : x .rows * 2 + 1 < length rows
       → stateOf (record { n = x .n; rows = x .rows + 1; rules = x .rules; current = x .current }) (set (set rows (x .rows * 2) a) (x .rows * 2 + 1) b) list background
-      ≡ afterNo before (object a b)
-  no-holds h = λ i. record {
+      ≡ afterFiling before (object a b)
+  filing-holds h = λ i. record {
     n = x .n;
     lent = record { rows = same i; list = length list; background = length background };
     background = allImplications background;
@@ -79,6 +80,15 @@ module _ (x : Session) (rows list background : List ℕ) (a b : ℕ) where
 
       joined : objectsOf (x .rows + 1) words ≡ objectsOf (x .rows) rows ++ (object a b ∷ [])
       joined = ap (λ k. objectsOf k words) (add-one (x .rows)) ∙ pairs-put object (x .rows) rows a b h
+
+-- a call that the machine refuses, where the record is given back as it was
+pub refused-turns : {c : Call} {s : Session} {rows list background : List ℕ} {x : Replied} (r : Refusal) → x ≡ refusedWith s r
+    → perform (stateOf s rows list background) c ≡ turn (refused r) (stateOf s rows list background)
+    → TurnedFrom (λ (a : Answer). a) c s rows list background (replyAnswer (x .answer)) (x .session) rows list (x .changed)
+refused-turns {c} {s} {rows} {list} {background} r e h =
+    let g = stateOf s rows list background in
+    subst (λ (y : Replied). TurnedFrom (λ (a : Answer). a) c s rows list background (replyAnswer (y .answer)) (y .session) rows list (y .changed)) (sym e)
+    (turns (performs h (sym (rows-kept c r g rows)) (sym (list-kept c r g list))) refl)
 
 -- an implication put at place k, said of another place and another implication that are the same
 pub written : (k j : ℕ) (ws : List ℕ) (q r : Implication ℕ) → q ≡ r → k ≡ j

@@ -24,9 +24,9 @@ use Rattle.context.specs.Objects.Laws.{spares, apart-marked}
 use Rattle.reach.specs.Reach.Laws.{reach-apart}
 use Rattle.context.specs.Tables.{AgreesImplication}
 use Rattle.context.specs.Tables.Laws.{no-contradiction}
-use Rattle.machine.specs.Checks.{State, check, force, reachOf, question, withQuestion, firstFailing, sessionChecks, yesChecks, noChecks}
+use Rattle.machine.specs.Checks.{State, check, force, reachOf, question, withQuestion, firstFailing, sessionChecks, yesChecks, testChecks, filingChecks, noChecks}
 use Rattle.machine.specs.Checks.Laws.{Stands, passed, failing-nothing, failing-here, failing-later, failing-append}
-use Rattle.machine.specs.Machine.{Call, step, accept, reject, taken, turn, afterMove, afterYes, afterNo, performed, checksOf, perform}
+use Rattle.machine.specs.Machine.{Call, step, accept, reject, taken, turn, afterMove, afterYes, afterFiling, performed, checksOf, perform}
 use Rattle.machine.specs.Machine.Laws.{perform-refused, perform-accepted, step-cases}
 use Rattle.machine.specs.Facts.Laws.{standing-question}
 use Rattle.machine.specs.Demand3.Invariant.{with-over}
@@ -132,20 +132,20 @@ module _ (table : List Object) (s : State) (changes : ℕ) (a : Along table s ch
     -- the checks of a no with a row of the table that refutes
     no-checks : (o : Object) → Refuting table (question s) o
         → firstFailing (checksOf s (reject o)) ≡ firstFailing (check 12 (leb (s .lent .rows / 2) (length (s .rows))) 0 ∷ [])
-    unfolding checksOf noChecks
+    unfolding checksOf testChecks filingChecks
     no-checks o r =
         let once = apart-marked o (a .complete o (r .member) .apart) in
         let fitting = or-none _ _ (in-familiar (s .n) o (row-in table s changes a o (r .member))) once in
         let refuting = ap not (same-refutes table s changes a o (r .member) (question s) ∙ r .refutes) in
         failing-append (sessionChecks s []) (noChecks s o) (passed _ (session-passes table s changes a))
         ∙ failing-later _ _ (standing-question s t) ∙ failing-later _ _ fitting ∙ failing-later _ _ refuting
-        ∙ failing-later _ _ (row-consistent table s changes a o (r .member))
+        ∙ failing-later _ _ fitting ∙ failing-later _ _ (row-consistent table s changes a o (r .member))
 
     core-no : (o : Object) (number : ℕ) → Refuting table (question s) o
         → replied (noLine (s .n) (question s) number) changes (perform s (reject o) .answer) (perform s (reject o) .after)
         ≡ coreNo s changes (question s) number o
     unfolding performed coreNo
-    core-no o number r = replied-core (reject o) (afterNo s o) _ _ changes changes refl (no-checks o r) refl
+    core-no o number r = replied-core (reject o) (afterFiling s o) _ _ changes changes refl (no-checks o r) refl
 
     -- where the table agrees with the question no row of it contradicts, with the question in the list
     pub yes-consistent : AgreesImplication table (question s) → (o : Object) → List·Memᴰ o table → contradicts (withQuestion s) o ≡ false

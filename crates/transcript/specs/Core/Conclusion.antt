@@ -18,7 +18,7 @@ use Rattle.context.specs.Objects.{Object}
 use Rattle.context.specs.Tables.{Table}
 use Rattle.context.specs.Tables.Laws.{follows-tables}
 use Rattle.machine.specs.Checks.{Lent, State, force, question}
-use Rattle.machine.specs.Machine.{step, finished, performed, checksOf, opening, opened, afterNo, afterYes}
+use Rattle.machine.specs.Machine.{step, finished, performed, checksOf, opening, opened, afterFiling, afterYes}
 use Rattle.machine.specs.Machine.Laws.{perform-accepted, step-cases, opened-is}
 use Rattle.machine.specs.Demand3.{OverM, Finished}
 use Rattle.machine.specs.Demand3.Theorem.{decided, shortest}
@@ -124,7 +124,7 @@ module _ (table : List Object) (s : State) (changes : ℕ) (a : Along table s ch
       go : (b : Bool) → leb (s .lent .rows / 2) (length (s .rows)) ≡ b
           → _≡_ {A = Beat} (elim b [
             | true ↦ last (noLine (s .n) (question s) number ++ refusalLine noPlace)
-            | false ↦ more (noLine (s .n) (question s) number) (afterNo s o) changes
+            | false ↦ more (noLine (s .n) (question s) number) (afterFiling s o) changes
           ]) (last line) → RefusedReply (s .n) table (s .lent) line
       go true f e = record {
         refused = record {

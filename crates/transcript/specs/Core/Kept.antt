@@ -13,9 +13,9 @@ use Rattle.context.specs.Objects.{Object}
 use Rattle.context.specs.Tables.{Table, AgreesImplication}
 use Rattle.machine.specs.Checks.{Lent, State, force, reachOf, question, withQuestion, sessionChecks}
 use Rattle.machine.specs.Checks.Laws.{Stands, passed}
-use Rattle.machine.specs.Machine.{afterMove, afterYes, afterNo, opening, opened}
+use Rattle.machine.specs.Machine.{afterMove, afterYes, afterFiling, opening, opened}
 use Rattle.machine.specs.Machine.Laws.{step-cases, opened-is}
-use Rattle.machine.specs.Demand3.Invariant.{Reached, with-over, moved-reached, yes-reached, no-reached, opened-reached}
+use Rattle.machine.specs.Demand3.Invariant.{Reached, with-over, moved-reached, yes-reached, filed-reached, opened-reached}
 use Rattle.output_lines.specs.Lines.{yesLine, noLine}
 use Rattle.closing_lines.specs.Closing.{refusalLine}
 use Rattle.transcript.specs.Output.{Beat, more, last}
@@ -48,7 +48,7 @@ module _ (table : List Object) (s : State) (changes : ℕ) (a : Along table s ch
         reached = moved-reached s (a .reached) ne e;
       }
 
-  no-along : (o : Object) → Refuting table (question s) o → leb (s .lent .rows / 2) (length (s .rows)) ≡ false → Along table (afterNo s o) changes
+  no-along : (o : Object) → Refuting table (question s) o → leb (s .lent .rows / 2) (length (s .rows)) ≡ false → Along table (afterFiling s o) changes
   no-along o r f = record {
     complete = a .complete;
     attributes = a .attributes;
@@ -60,7 +60,7 @@ module _ (table : List Object) (s : State) (changes : ℕ) (a : Along table s ch
     row-places = omega (arith, leb-false (s .lent .rows / 2) (length (s .rows)) f, length-append (s .rows) (o ∷ []));
     list-places = a .list-places;
     counts = a .counts;
-    reached = no-reached s (a .reached) o (row-consistent table s changes a o (r .member));
+    reached = filed-reached s (a .reached) o (row-consistent table s changes a o (r .member));
   }
 
   yes-along : Stands s → AgreesImplication table (question s) → leb (s .lent .list / 2) (length (s .list)) ≡ false
@@ -99,10 +99,10 @@ module _ (table : List Object) (s : State) (changes : ℕ) (a : Along table s ch
         go : (b : Bool) → leb (s .lent .rows / 2) (length (s .rows)) ≡ b
             → _≡_ {A = Beat} (elim b [
               | true ↦ last (noLine (s .n) (question s) number ++ refusalLine noPlace)
-              | false ↦ more (noLine (s .n) (question s) number) (afterNo s o) changes
+              | false ↦ more (noLine (s .n) (question s) number) (afterFiling s o) changes
             ]) (more line s′ c′) → BeatKeeps table s s′ c′
         go true f e = not-more _ e
-        go false f e = goes-to (afterNo s o) _ changes refl refl (no-along o r f) e
+        go false f e = goes-to (afterFiling s o) _ changes refl refl (no-along o r f) e
 
     yes-kept : Stands s → AgreesImplication table (question s) → coreYes s changes (question s) ≡ more line s′ c′ → BeatKeeps table s s′ c′
     unfolding coreYes

@@ -14,7 +14,7 @@ use Rattle.context.specs.Objects.{Object}
 use Rattle.session.specs.Limits.{badLength, mostAttributes, mostObjects, mostImplications}
 use Rattle.machine.specs.Checks.{State}
 use Rattle.machine.specs.Checks.Laws.{or-false}
-use Rattle.machine.specs.Machine.{afterMove, agreeing, afterNo}
+use Rattle.machine.specs.Machine.{afterMove, agreeing, afterFiling}
 use Rattle.written_machine.specs.Reading.{writtenReach, writtenQuestion}
 use Rattle.text.specs.Text.{numberText}
 use Rattle.text.specs.Text.Digits.Laws.{number-short}
@@ -81,7 +81,7 @@ module _ (table : List Object) (s : State) (changes : ℕ) (h : Along table s ch
       go : (b : Bool) → leb (s .lent .rows / 2) (length (s .rows)) ≡ b
           → Paid s (elim b [
             | true ↦ last (noLine (s .n) q number ++ refusalLine noPlace)
-            | false ↦ more (noLine (s .n) q number) (afterNo s o) changes
+            | false ↦ more (noLine (s .n) q number) (afterFiling s o) changes
           ])
       go true e =
           rw (length-append (noLine (s .n) q number))

@@ -8,7 +8,7 @@ use Rattle.context.specs.Places.{lowest, anywhere}
 use Rattle.context.specs.Objects.{has, excludes, lacks, refutes, refutesWritten, firstWritten, markedTwice, contradicts}
 use Rattle.reach.specs.Reach.{cut, narrow, reach}
 use Rattle.session.specs.Limits.{badLength}
-use Rattle.machine.specs.Checks.{standing, questionStands, firstFailing, strange, outsideM, sessionChecks, yesChecks, noChecks}
+use Rattle.machine.specs.Checks.{standing, questionStands, firstFailing, strange, outsideM, sessionChecks, yesChecks, testChecks, filingChecks}
 use Rattle.machine.specs.Machine.{performStep, performed, checksOf, perform, opening}
 use Rattle.table_lines.specs.Lines.{lineOf}
 use Rattle.line_bytes.specs.Everywhere.{everywhere}
@@ -25,5 +25,5 @@ use Rattle.transcript.specs.Output.{answered, beat, beats, outputWith}
 use Rattle.transcript.specs.Example.{Example}
 
 pub example : Example
-unfolding full without inside meets fire pass close closure fits nextBelow lowest anywhere passing has excludes lacks refutes refutesWritten firstWritten markedTwice contradicts cut narrow reach standing questionStands firstFailing badLength strange outsideM sessionChecks yesChecks noChecks performStep performed checksOf perform opening lineOf everywhere decimalFrom isCount countOf fault lineFault walk rest layoutOf openedOf wordOf rowsFrom completeFrom digits setText listLines answered beat beats outputWith
+unfolding full without inside meets fire pass close closure fits nextBelow lowest anywhere passing has excludes lacks refutes refutesWritten firstWritten markedTwice contradicts cut narrow reach standing questionStands firstFailing badLength strange outsideM sessionChecks yesChecks testChecks filingChecks performStep performed checksOf perform opening lineOf everywhere decimalFrom isCount countOf fault lineFault walk rest layoutOf openedOf wordOf rowsFrom completeFrom digits setText listLines answered beat beats outputWith
 example = record { whole = refl; refused = refl }

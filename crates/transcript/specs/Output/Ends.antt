@@ -8,16 +8,16 @@ use native.Mathlib.Nat.{mul-lt-mul-of-pos-right, mul-le-mul-right}
 use native.Mathlib.Omega.{arith}
 use lib.ListN.{length, length-append, getD}
 use lib.Dec.{ltb}
-use borrow.Author.Tests.{leb-false}
 use Rattle.theory.specs.Implications.{Implication}
 use Rattle.attribute_set.specs.Sets.{full}
 use Rattle.attribute_set.specs.Lectic.Rank.{rank, rank-lt, rank-before}
 use Rattle.next_set.specs.Next.Laws.{next-is}
 use Rattle.context.specs.Objects.{Object, object, firstWritten}
-use Rattle.machine.specs.Checks.{Lent, State, force, question, withQuestion, sessionChecks, noChecks}
-use Rattle.machine.specs.Checks.Laws.{passed-append}
-use Rattle.machine.specs.Machine.{step, accept, reject, Turn, afterMove, afterYes, afterNo, performStep, performed, checksOf, perform, opened, opening}
+use Rattle.machine.specs.Checks.{Lent, State, force, question, withQuestion}
+use Rattle.machine.specs.Checks.Laws.{no-both}
+use Rattle.machine.specs.Machine.{step, accept, reject, Turn, afterMove, afterYes, afterFiling, performStep, performed, checksOf, perform, opened, opening}
 use Rattle.machine.specs.Machine.Laws.{perform-cases, perform-accepted, step-cases}
+use Rattle.machine.specs.Facts.Laws.{checks-filing}
 use Rattle.machine.specs.Demand3.Invariant.{Reached, perform-reached, opened-reached}
 use Rattle.transcript.specs.Output.{Beat, more, last, replied, answered, stepped, beat, beats, lastWithin, enough}
 use Rattle.output_lines.specs.Lines.{yesLine, noLine}
@@ -57,7 +57,7 @@ module _ (s : State) (h : Reached s) (open′ : s .current ≡ full (s .n) → �
         less = later-less (2 ^ s .n) _ _ _ (s .lent .rows / 2) (rank-before (s .n) (t .later) (t .inside)) (rank-lt (s .n) _);
       }
 
-no-falls : (s : State) (o : Object) → length (s .rows) < s .lent .rows / 2 → Reached (afterNo s o) → Falls s (afterNo s o)
+no-falls : (s : State) (o : Object) → length (s .rows) < s .lent .rows / 2 → Reached (afterFiling s o) → Falls s (afterFiling s o)
 unfolding measure
 no-falls s o l c = record {
   reached = c;
@@ -72,9 +72,9 @@ module _ (table : List Object) (s : State) (changes : ℕ) (h : Reached s) (line
   goes-to x l c f e = let q : x ≡ s′ = cc in subst (λ y. Falls s y) q f
 
   no-reply : (o : Object) (l : List ℕ) (c : ℕ) → replied l c (perform s (reject o) .answer) (perform s (reject o) .after) ≡ more line s′ c′ → Falls s s′
-  unfolding performed checksOf noChecks
+  unfolding performed checksOf
   no-reply o l c = perform-cases s (reject o) (λ t. replied l c (t .answer) (t .after) ≡ more line s′ c′ → Falls s s′)
-      (λ e. goes-to (afterNo s o) l c (no-falls s o (leb-false _ _ (passed-append (sessionChecks s []) (noChecks s o) e .1 .1 .1 .1 .1 .0))
+      (λ e. goes-to (afterFiling s o) l c (no-falls s o (checks-filing s o (no-both s o e .1) .place)
       (subst (λ (t : Turn). Reached (t .after)) (perform-accepted s (reject o) e) (perform-reached s (reject o) h))))
       (λ r e k. absurd (not-more _ _ _ _ k))
 

@@ -1,7 +1,7 @@
 -- Where all rows are complete a call's answer and the state after it are those by written marks: where 1 to 7 pass, the reach is the
 -- one by written marks, and so are the question and all that reads it; where one of them fails, both refuse alike.
 use mathlib.Core.Path.{_≡_, refl, sym, ap, ap₂, _∙_}
-use mathlib.Core.Bool.{Bool, true, false, not, _||_}
+use mathlib.Core.Bool.{Bool, true, false, not}
 use mathlib.Core.List.{List, [], _∷_, _++_, append-nil}
 use mathlib.Core.Option.{Option, none, some}
 use Prim.Native.Nat.{ℕ, _/_, _≤_}
@@ -13,14 +13,14 @@ use Rattle.attribute_set.specs.Sets.{full, without}
 use Rattle.implication.specs.Closure.{implication}
 use Rattle.context.specs.Places.{lowest, anywhere}
 use Rattle.context.specs.Places.Laws.{lowest-same}
-use Rattle.context.specs.Objects.{Object, wordAttributes, refutes, firstRefuting, refutesWritten, firstWritten, markedTwice, contradicts}
+use Rattle.context.specs.Objects.{Object, wordAttributes, refutes, firstRefuting, refutesWritten, firstWritten, contradicts}
 use Rattle.context.specs.Tables.{Complete}
 use Rattle.session.specs.declared.Refusal.{Refusal}
 use Rattle.written_marks.specs.Written.Laws.{refutes-written, reach-written}
-use Rattle.machine.specs.Checks.{State, force, reachOf, Standing, whole, tight, open-question, standing, questionStands, question, Check, check, firstFailing, strangeObject, sessionChecks, yesChecks, noChecks}
+use Rattle.machine.specs.Checks.{State, force, reachOf, Standing, whole, tight, open-question, standing, questionStands, question, Check, check, firstFailing, badRow, sessionChecks, yesChecks, testChecks, filingChecks}
 use Rattle.machine.specs.Checks.Laws.{passed, failing-first, Valid, valid, checked-small}
-use Rattle.machine.specs.Machine.{Call, step, accept, reject, follow, refute, finished, moved, asked, taken, refused, Turn, turn, afterMove, agreeing, refutedAt, performStep, performed, checksOf, perform}
-use Rattle.written_machine.specs.Reading.{writtenReach, writtenStanding, writtenStands, writtenQuestion, writtenYes, writtenNo, writtenStep, writtenPerformed, writtenChecks, writtenPerform}
+use Rattle.machine.specs.Machine.{Call, step, accept, reject, follow, refute, test, file, finished, moved, asked, taken, refused, Turn, turn, afterMove, agreeing, refutedAt, performStep, performed, checksOf, perform}
+use Rattle.written_machine.specs.Reading.{writtenReach, writtenStanding, writtenStands, writtenQuestion, writtenYes, writtenTest, writtenStep, writtenPerformed, writtenChecks, writtenPerform}
 use Rattle.written_machine.specs.Reading.Unchanged.{OffersComplete, Unchanged}
 
 module _ (s : State) (complete : All (Complete (s .n)) (s .rows)) where
@@ -61,14 +61,12 @@ module _ (s : State) (complete : All (Complete (s .n)) (s .rows)) where
     same-refutes : (o : Object) → Complete (s .n) o → contradicts (force s) o ≡ false → (r : Implication ℕ) → refutes (force s) o r ≡ refutesWritten o r
     same-refutes o whole′ agrees r = refutes-written (s .n) most (force s) (v .over) o (record { complete = whole′; agrees = agrees }) r
 
-    same-no : (o : Object) → Complete (s .n) o → contradicts (force s) o ≡ false → noChecks s o ≡ writtenNo s o
-    unfolding noChecks writtenNo
-    same-no o whole′ agrees = ap₂ (λ b d.
+    same-test : (o : Object) → Complete (s .n) o → contradicts (force s) o ≡ false → testChecks s o ≡ writtenTest s o
+    unfolding testChecks writtenTest
+    same-test o whole′ agrees = ap₂ (λ b d.
         check 8 (not b) 0
-        ∷ check 9 (strangeObject (s .n) o || markedTwice o) 0
+        ∷ check 9 (badRow (s .n) o) 0
         ∷ check 10 (not d) 0
-        ∷ check 11 (contradicts (force s) o) 0
-        ∷ check 12 (leb (s .lent .rows / 2) (length (s .rows))) 0
         ∷ []) same-stands (same-refutes o whole′ agrees (question s) ∙ ap (refutesWritten o) same-question)
 
     same-step : performStep s ≡ writtenStep s
@@ -115,9 +113,11 @@ module _ (s : State) (complete : All (Complete (s .n)) (s .rows)) where
   unfolding perform writtenPerform settled checksOf writtenChecks performed writtenPerformed
   same-call step k = same-alone [] _ _ (λ e. same-step [] e)
   same-call accept k = same-settled [] _ _ _ _ (λ e. (same-yes [] e, ap (λ q. turn taken (agreeing s q)) (same-question [] e)))
-  same-call (reject o) k = same-settled [] _ _ _ _ (λ e. (same-no [] e o (k .0) (k .1), refl))
+  same-call (reject o) k = same-settled [] _ _ _ _ (λ e. (ap (λ l. l ++ filingChecks s o) (same-test [] e o (k .0) (k .1)), refl))
   same-call (follow r) k = refl
   same-call (refute r) k = same-alone (r ∷ []) _ _ (λ e. ap (λ p. turn (refutedAt p (length (s .rows))) s) (same-first (r ∷ []) e r))
+  same-call (test o) k = same-settled [] _ _ _ _ (λ e. (same-test [] e o (k .0) (k .1), refl))
+  same-call (file o) k = refl
 
 pub unchanged : Unchanged
 unchanged = record { unchanged = λ s c complete k. same-call s complete c k }

@@ -11,7 +11,7 @@ use Rattle.theory.specs.Implications.{Implication}
 use Rattle.context.specs.Objects.{Object, object, firstWritten}
 use Rattle.context.specs.Tables.{Complete}
 use Rattle.machine.specs.Checks.{Lent, State}
-use Rattle.machine.specs.Machine.{step, accept, reject, Answer, finished, moved, asked, taken, followed, refuted, unrefuted, refused, Turn, perform, opened, rejected, Opening, opening}
+use Rattle.machine.specs.Machine.{step, accept, reject, Answer, finished, moved, asked, taken, followed, refuted, unrefuted, refuting, refused, Turn, perform, opened, rejected, Opening, opening}
 use Rattle.written_machine.specs.Reading.{writtenPerform}
 use Rattle.written_machine.specs.Reading.Unchanged.Theorem.{unchanged}
 use Rattle.table_layout.specs.Layout.{openedOf}
@@ -66,6 +66,7 @@ module _ (table : List Object) (s : State) (changes : ℕ) (a : Along table s ch
   same-stepped (followed b) s′ = refl
   same-stepped (refuted p) s′ = refl
   same-stepped unrefuted s′ = refl
+  same-stepped refuting s′ = refl
   same-stepped (refused r) s′ = refl
 
   same-beat : beat table s changes ≡ writtenBeat table s changes
