@@ -19,8 +19,8 @@ pub fn file_checked(
 {
     let used = session.rows;
     let rules = session.rules;
-    let verdict = row_tests::check_filed_row(session.n, background, list, rules, yes, no);
-    if let size_checks::Verdict::Refused(refusal) = verdict {
+    let outcome = row_tests::check_filed_row(session.n, background, list, rules, yes, no);
+    if let size_checks::Verdict::Refused(refusal) = outcome {
         return session_replies::refused(session, refusal);
     }
     if rows.len() / 2 <= used {

@@ -1,7 +1,5 @@
 -- Each kind makes the call of its kind, whose contract is that of the log's call; an unknown kind does nothing.
-use mathlib.Core.Path.{_≡_}
 use borrow.Author.Needs.{needs}
-use Rattle.logged_calls.specs.Kinds.{callOf}
 use Rattle.logged_calls.specs.Kinds.Laws.{call-unknown, kind-step, kind-yes, kind-no, kind-follows, kind-refuted, kind-test, kind-filing, of-kind, of-unknown}
 use Rattle.logged_calls.proofs.replay_one.Statement.{statement}
 use Rattle.logged_calls.proofs.replay_one.Tie as tie

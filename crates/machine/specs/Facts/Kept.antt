@@ -1,7 +1,8 @@
 -- A session once opened never goes bad. After an accepted opening and any list of calls checks 1 to 7 pass (`never-bad`), so that a step is
--- not refused, a reply is refused with 8 to 12 alone, a test with 8 to 10, a filing with 9, 11 and 12, and a read-only call about a rule with 4
--- alone, where the rule is not over M (`late-refusals`). From it: a step answers Finished just where the current set is M (`finished-at-full`, `full-finished`), and Asked just
--- where a question stands (`asked-stands`, `stands-asked`). At the opening, 7 and the list's part of 3 and 4 cannot fail (`opening-closed`,
+-- not refused, a reply is refused with 8 to 12 alone, a test with 8 to 10, a filing with 9, 11 and 12, and a read-only call about a rule
+-- with 4 alone, where the rule is not over M (`late-refusals`). From it: a step answers Finished just where the current set is M
+-- (`finished-at-full`, `full-finished`), and Asked just where a question stands (`asked-stands`, `stands-asked`). A finished interview stays
+-- finished, whatever is called then (`stays-finished`). At the opening, 7 and the list's part of 3 and 4 cannot fail (`opening-closed`,
 -- `opening-list`).
 use mathlib.Core.Path.{_≡_, refl, sym, ap, _∙_, subst}
 use mathlib.Core.Bool.{Bool, true, false}
@@ -30,7 +31,7 @@ use Rattle.machine.specs.Checks.{Lent, State, Check, firstFailing, stran
 use Rattle.machine.specs.Checks.Laws.{or-false, passed, none-failing, failing-here, failing-later, failing-append, passed-append, no-both, InM, familiar-implication, Stands}
 use Rattle.machine.specs.Machine.{Call, step, accept, reject, follow, refute, test, file, finished, asked, refused, afterYes, afterFiling, performStep, performed, checksOf, perform, run, opening, opened, openingState}
 use Rattle.machine.specs.Machine.Laws.{perform-cases, perform-accepted, step-cases, no-refusal, performed-answers, opened-is, finished-full}
-use Rattle.machine.specs.Demand3.Invariant.{Reached, current-in, perform-reached, opened-reached}
+use Rattle.machine.specs.Demand3.Invariant.{Reached, current-in, perform-reached, run-reached, opened-reached}
 use Rattle.machine.specs.Facts.{Places, Fine}
 use Rattle.machine.specs.Facts.Laws.{checks-fine, fine-checks, checks-yes, checks-filing}
 
@@ -217,6 +218,37 @@ module _ (s : State) (f : Fine s) where
       step-cases s (λ t. t .answer ≡ asked q → Stands s × (q ≡ question s))
       (λ d e. absurd (let z : _≡_ {A = ℕ} 0 1 = cc in omega arith)) (λ n d e. absurd (let z : _≡_ {A = ℕ} 0 1 = cc in omega arith))
       (λ n d e. (record { below = n; differs = d }, cc)) (sym (ap (λ t. t .answer) step-is) ∙ h)
+
+-- ---- once finished
+
+-- at M no call moves: a step finishes, a yes is refused, and a row more leaves the current set
+full-stays : (s : State) (c : Call) → s .current ≡ full (s .n) → perform s c .after .current ≡ full (perform s c .after .n)
+unfolding performed checksOf
+full-stays s c d = perform-cases s c (λ t. t .after .current ≡ full (t .after .n)) (at-full c) (λ r e. d)
+  where
+    at-full : (x : Call) → firstFailing (checksOf s x) ≡ none → performed s x .after .current ≡ full (performed s x .after .n)
+    at-full step e = step-cases s (λ t. t .after .current ≡ full (t .after .n)) (λ _. d) (λ n _. absurd (n d)) (λ _ _. d)
+    at-full accept e = absurd (checks-yes s (none-failing _ (passed-append (sessionChecks s []) (yesChecks s) e .1)) .stands .below d)
+    at-full (reject o) e = d
+    at-full (follow r) e = d
+    at-full (refute r) e = d
+    at-full (test o) e = d
+    at-full (file o) e = d
+
+run-finished : (s : State) (calls : List Call) → Reached s → Fine s → perform s step .answer ≡ finished → perform (run s calls) step .answer ≡ finished
+unfolding run
+run-finished s [] h f d = d
+run-finished s (c ∷ calls) h f d =
+    let f′ = perform-fine s c h f in
+    run-finished (perform s c .after) calls (perform-reached s c h) f′ (full-finished (perform s c .after) f′ (full-stays s c (finished-full s d)))
+
+-- an interview that is finished stays finished, whatever is called then: filings after Finished too
+pub stays-finished : (n : ℕ) (lent : Lent) (background : List (Implication ℕ)) (rows : List Object) (start : State)
+    → opening n lent background rows ≡ opened start → (calls more : List Call)
+    → perform (run start calls) step .answer ≡ finished → perform (run (run start calls) more) step .answer ≡ finished
+stays-finished n lent background rows start e calls more =
+    run-finished (run start calls) more (run-reached start calls (opened-reached n lent background rows start e))
+    (never-bad n lent background rows start e calls)
 
 -- ---- the opening
 

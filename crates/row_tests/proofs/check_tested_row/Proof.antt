@@ -1,10 +1,9 @@
 -- The tests are those of checks 9 and 10, each made only where those before it are false.
 use mathlib.Core.Path.{_≡_, sym, ap, _∙_}
 use mathlib.Core.Bool.{not}
-use mathlib.Core.List.{List, [], _∷_}
+use mathlib.Core.List.{[], _∷_}
 use Prim.Native.Nat.{_≤_}
 use borrow.Author.Needs.{needs}
-use Rattle.theory.specs.Implications.{Implication}
 use Rattle.implication.specs.Closure.{implication, inForce}
 use Rattle.context.specs.Objects.{Object, object, refutes}
 use Rattle.session.specs.Limits.{mostAttributes}

@@ -1,15 +1,15 @@
 -- Every interview has its trace (`trace`), and every list of calls is the log of its words (`every-log`).
-use mathlib.Core.Path.{_≡_, refl, sym, ap, ap₂, _∙_, subst}
+use mathlib.Core.Path.{_≡_, refl, sym, ap, _∙_, subst}
 use mathlib.Core.List.{List, [], _∷_, _++_}
 use mathlib.Core.Option.{Option, none, some}
-use Prim.Native.Nat.{ℕ, zero, suc, _+_, _*_, _/_, _≤_, _<_}
+use Prim.Native.Nat.{ℕ, zero, suc, _+_, _*_, _/_, _<_}
 use native.Mathlib.Omega.{arith}
-use lib.ListN.{length, getD, take, drop}
+use lib.ListN.{length, getD}
 use lib.Seq.{take-length}
 use Rattle.implication.specs.Pairs.Laws.{length-pairs}
 use Rattle.implication.specs.Closure.{implication}
 use Rattle.context.specs.Objects.{object, objectsOf}
-use Rattle.machine.specs.Checks.{Lent, State}
+use Rattle.machine.specs.Checks.{State}
 use Rattle.machine.specs.Machine.{Call, step, accept, reject, follow, refute, test, file, perform, run}
 use Rattle.machine.specs.Facts.{Fine}
 use Rattle.machine.specs.Facts.Kept.{never-bad}
@@ -17,7 +17,7 @@ use Rattle.answer_words.specs.Codes.{coded}
 use Rattle.logged_calls.specs.Kinds.{callOf}
 use Rattle.call_logs.specs.Replay.{callsOf, replayCode, replayAfter, known, answersOf, logOf}
 use Rattle.saved_interview.specs.Demand3Whole.{Interview, opening-state, end-state, script, rules}
-use Rattle.saved_interview.specs.Trace.{stateAfter, answerAt, Link, log, Trace, wordsOf, logWordsOf}
+use Rattle.saved_interview.specs.Trace.{stateAfter, answerAt, log, Trace, wordsOf, logWordsOf}
 
 -- ---- one call more
 

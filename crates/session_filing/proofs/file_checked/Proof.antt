@@ -65,7 +65,7 @@ after-eleven c ok =
 returns : tie.Need-returns
 returns c ok =
     let d = c .before .before .before .before in
-    let e = behind d ok ∙ failing-first (early d) (twelve d ∷ []) _ (tested d _ ok (c .before .before .verdict .given .1)) in
+    let e = behind d ok ∙ failing-first (early d) (twelve d ∷ []) _ (tested d _ ok (c .before .before .outcome .given .1)) in
     refused-turns _ (c .refused .ensures) (perform-refused (state d) (file (offered d)) _ e)
 
 returns-2 : tie.Need-returns-2

@@ -17,7 +17,7 @@ use Rattle.next_set.specs.Next.{next}
 use Rattle.context.specs.Objects.{object, objectsOf}
 use Rattle.machine.specs.Checks.{State, firstFailing, sessionChecks, yesChecks}
 use Rattle.machine.specs.Checks.Laws.{passed-append, none-failing, checked-small}
-use Rattle.machine.specs.Machine.{Call, accept, Answer, refused, Turn, turn, agreeing, afterFiling, checksOf, perform}
+use Rattle.machine.specs.Machine.{Call, accept, Answer, refused, turn, agreeing, afterFiling, checksOf, perform}
 use Rattle.machine.specs.Calls.{stateOf, TurnedFrom}
 use Rattle.machine.specs.Calls.Laws.{performs, turns, rows-kept, list-kept}
 use Rattle.session_replies.specs.declared.Replied.{Replied}
