@@ -49,7 +49,7 @@ sentences =
     "No question stands: make a step first." ∷
     "The row has a property that the session has not, or marks one both yes and no: correct the row." ∷
     "The row does not refute the question: mark the whole premise yes, and something of the conclusion no." ∷
-    "The reply contradicts. A yes: the row named lacks some of it; say no with what it lacks, or correct it. A no: correct its row." ∷
+    "This contradicts. A yes: the row named lacks some of it; say no with what it lacks, or correct it. An offered row: correct it." ∷
     "All places are in use: lend more words for rows or rules." ∷
     "" ∷
     "" ∷
