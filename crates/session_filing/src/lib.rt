@@ -4,7 +4,7 @@ ghost use Rattle.context.specs.Objects.{object};
 ghost use Rattle.machine.specs.Machine.{file};
 ghost use Rattle.machine.specs.Calls.{Turns};
 ghost use Rattle.session_replies.specs.Answers.{replyAnswer};
-ghost use Rattle.session_filing.specs.Checked.{WhereChecked};
+ghost use Rattle.session_filing.specs.Checked.{FilesChecked};
 
 // A filing behind checks 1 to 7, which it does not make.
 pub fn file_checked(
@@ -15,7 +15,7 @@ pub fn file_checked(
     yes: u64,
     no: u64,
 ) -> session_replies::Replied
-    ensures { λ r. ⌜ WhereChecked (file (object yes no)) session rows list background (replyAnswer (r .answer)) (r .session) (r .changed) ⌝ }
+    ensures { λ r. ⌜ FilesChecked (object yes no) session rows list background r ⌝ }
 {
     let used = session.rows;
     let rules = session.rules;

@@ -20,11 +20,7 @@ pub fn accept(
     let question = match asking {
         reply_checks::Asking::Question(question) => question,
         reply_checks::Asking::Refused(refusal) => {
-            return session_replies::Replied {
-                answer: session_replies::Reply::Refused(refusal),
-                session,
-                changed: false,
-            };
+            return session_replies::refused(session, refusal);
         }
     };
     list[rules * 2] = question.premise;

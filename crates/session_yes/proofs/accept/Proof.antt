@@ -15,8 +15,10 @@ use Rattle.machine.specs.Calls.{stateOf}
 use Rattle.machine.specs.Calls.Laws.{performs, turns}
 use Rattle.standing.specs.declared.Question.{Question}
 use Rattle.standing.specs.Standings.{questionOf}
+use Rattle.reply_checks.specs.declared.Asking.{Asking}
+use Rattle.reply_checks.specs.Outcomes.{asking}
 use Rattle.reply_checks.specs.Outcomes.Laws.{asking-question, asking-refused}
-use Rattle.session_replies.specs.Answers.Laws.{yes-small, yes-holds, written}
+use Rattle.session_replies.specs.Answers.Laws.{yes-small, yes-holds, refused-turns, written}
 use Rattle.session_yes.proofs.accept.Statement.{statement}
 use Rattle.session_yes.proofs.accept.Tie as tie
 
@@ -28,6 +30,10 @@ start c =
 abbrev state : tie.After-check-yes → State
 state c = let a = start c .args in stateOf (a .session) (a .rows .now) (a .list .now) (a .background .now)
 
+-- what was found, by its outcome
+outcome : (c : tie.After-check-yes) (x : Asking) → c .check-yes .result ≡ x → x ≡ asking (state c) accept
+outcome c x e = sym e ∙ c .check-yes .ensures
+
 -- the question that was found
 abbrev checked : tie.After-known-told → tie.After-check-yes
 checked c = c .before .before .before
@@ -37,7 +43,7 @@ found c = c .before .asking .given .0 .0
 
 -- it is the machine's, and the checks passed
 passed : (c : tie.After-known-told) → let s = state (checked c) in (found c ≡ questionOf s) × (firstFailing (checksOf s accept) ≡ none)
-passed c = asking-question (state (checked c)) accept (found c) (sym (c .before .asking .given .1) ∙ checked c .check-yes .ensures)
+passed c = asking-question (state (checked c)) accept (found c) (outcome (checked c) _ (c .before .asking .given .1))
 
 -- so there is a place
 room : (c : tie.After-known-told) → let a = start (checked c) .args in a .session .rules * 2 + 1 < length (a .list .now)
@@ -47,8 +53,8 @@ room c =
 
 returns : tie.Need-returns
 returns c =
-    let d = c .before .before .before in
-    turns (performs (perform-refused (state d) accept _ (asking-refused (state d) accept _ (sym (c .before .asking2 .given .1) ∙ d .check-yes .ensures))) refl refl) refl
+    let d = c .before .before .before .before in
+    refused-turns _ (c .refused .ensures) (perform-refused (state d) accept _ (asking-refused (state d) accept _ (outcome d _ (c .before .before .asking2 .given .1))))
 
 mul-list : tie.Need-mul-list
 mul-list c = omega (arith, room c)
@@ -78,8 +84,8 @@ slice-write-list-2 c = rw length-set (omega (arith, room c))
 add-next-of : tie.Need-add-next-of
 add-next-of c = omega (arith, room (c .before))
 
-add-t20 : tie.Need-add-t20
-add-t20 c = omega (arith, room (c .before .before))
+add-t19 : tie.Need-add-t19
+add-t19 c = omega (arith, room (c .before .before))
 
 -- the turn of the machine, and what record and words then hold
 turned : (c : tie.After-known-told) → let s = state (checked c) in perform s accept ≡ turn taken (afterYes s)
@@ -108,6 +114,7 @@ accept-spec =
     (λ c κs. search needs)
     (λ c. search needs)
     (λ c. search needs)
+    (λ c κs. search needs)
     (λ c. search needs)
     returns
     mul-list
@@ -119,6 +126,6 @@ accept-spec =
     slice-write-list-2
     add-next-of
     (λ c κs. search needs)
-    add-t20
+    add-t19
     (λ c. search needs)
     returns-2)
