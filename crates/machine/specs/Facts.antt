@@ -1,5 +1,5 @@
--- Document 01's refusals 1 to 12 as facts about a state, a rule asked about, a reply, a test and a filing ("Refusals in checking order"). `Laws` proves that
--- the checks pass just where these hold, and `Kept` that they hold of checks 1 to 7 from an accepted opening on.
+-- Document 01's refusals 1 to 12 as facts about a state, a rule asked about, a reply, a test and a filing ("Refusals in checking order").
+-- `Laws` proves that the checks pass just where these hold, and `Kept` that they hold of checks 1 to 7 from an accepted opening on.
 use mathlib.Core.Path.{_≡_}
 use mathlib.Core.Bool.{true}
 use Prim.Native.Nat.{ℕ, _*_, _/_, _%_, _≤_, _<_}

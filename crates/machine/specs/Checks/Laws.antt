@@ -87,6 +87,13 @@ failing-first (c ∷ xs) ys r e = go (c .fails) (failing-first xs ys r) e
     go true ih h = h
     go false ih h = ih h
 
+-- what stands behind decides by its first failing check alone
+pub failing-behind : (xs ys zs : List Check) → firstFailing ys ≡ firstFailing zs → firstFailing (xs ++ ys) ≡ firstFailing (xs ++ zs)
+unfolding firstFailing
+failing-behind [] ys zs e = e
+failing-behind (c ∷ xs) ys zs e =
+    ap (λ v. elim (c .fails) as (λ b. Option Refusal) [ true ↦ some (refusal (c .number) (c .place)) | false ↦ v ]) (failing-behind xs ys zs e)
+
 -- a no that passes its checks passes those of the test and those of the filing
 pub no-both : (s : State) (o : Object) → firstFailing (sessionChecks s [] ++ noChecks s o) ≡ none
     → (firstFailing (testChecks s o) ≡ none) × (firstFailing (filingChecks s o) ≡ none)
