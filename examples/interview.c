@@ -21,10 +21,11 @@ static const char USAGE[] =
     "  TABLE       a table in Burmeister's layout; X yes, . no, ? unknown\n"
     "  background  rules that hold from the start, one a line: has fur, flies -> breathes air\n"
     "  log         the interview so far is taken up from it, and written to it as it goes\n"
-    "  save        the table with the rows of your replies is written to it at the end\n"
+    "  save        the table with the rows that you gave is written to it at the end\n"
     "  nearly      shown first: what more than this percentage of the rows with a property have too, and the rows that stand in the way\n"
     "Answer a question with yes (y), or with no (n) and a row of marks that refutes it; behind the marks the row may get a name.\n"
-    "A mark that the rules imply may stay unknown.\n";
+    "A mark that the rules imply may stay unknown. At a question, and when the interview is finished, row (r) and marks file a row that need\n"
+    "not refute anything; at a question test (t) and marks say whether a row refutes it, and file nothing.\n";
 
 static uint8_t file[ZUNDRAFL_MOST_BYTES + 1];
 static size_t bytes;
@@ -34,7 +35,7 @@ static zundrafl_layout layout;
 static zundrafl_session session;
 static zundrafl_answer answer;
 static char attribute_names[ZUNDRAFL_MOST_ATTRIBUTES][MOST_NAME + 1];
-static char object_names[ZUNDRAFL_MOST_ROWS][MOST_NAME + 1]; /* empty for a counterexample without a name */
+static char object_names[ZUNDRAFL_MOST_ROWS][MOST_NAME + 1]; /* empty for one of your rows without a name */
 static FILE *record; /* where the log is written */
 
 static void fail(const char *what, const char *path) {
@@ -56,7 +57,7 @@ static void show_set(FILE *to, uint64_t set) {
 
 static void show_row(FILE *to, size_t row) {
     if (row < layout.objects || object_names[row][0]) fprintf(to, "row %zu (%s)", row + 1, object_names[row]);
-    else fprintf(to, "row %zu (the %zu. of your counterexamples)", row + 1, row + 1 - layout.objects);
+    else fprintf(to, "row %zu (the %zu. of your rows)", row + 1, row + 1 - layout.objects);
 }
 
 /* The name of a row as the table that is saved has it. */
@@ -172,6 +173,16 @@ static int read_set(char *text, uint64_t *set) {
     return 1;
 }
 
+/* Whether a word is a command or its first letter. */
+static int is(const char *word, const char *command) {
+    return strcmp(word, command) == 0 || (word[0] == command[0] && !word[1]);
+}
+
+/* Whether a call of the log has a row, with marks and name. */
+static int has_row(const char *call) {
+    return strcmp(call, "no") == 0 || strcmp(call, "row") == 0;
+}
+
 /* A number in digits; one too long for a word is the largest word. */
 static int read_number(const char *text, uint64_t *number) {
     *number = strtoull(text, NULL, 10);
@@ -227,7 +238,7 @@ static void read_background(const char *path) {
 static void write_call(const char *call, uint64_t yes, uint64_t no, const char *name) {
     if (!record) return;
     fputs(call, record);
-    if (strcmp(call, "no") == 0) fputc(' ', record), show_marks(record, yes, no);
+    if (has_row(call)) fputc(' ', record), show_marks(record, yes, no);
     fprintf(record, "%s%s\n", *name ? " " : "", name);
     if (fflush(record) != 0) fail("cannot be written", "the log");
 }
@@ -250,9 +261,10 @@ static int take_up(const char *path) {
         char *rest = line, *word = next_word(&rest);
         if (words + 3 > room && !(calls = realloc(calls, (room = 2 * room + 3) * sizeof *calls))) fail("too long", path);
         if (strcmp(word, "yes") == 0 && !*rest) call[0] = ZUNDRAFL_YES;
-        else if (strcmp(word, "no") == 0 && read_named_row(&rest, &call[1], &call[2]) && strlen(rest) <= MOST_NAME) call[0] = ZUNDRAFL_NO;
+        else if (has_row(word) && read_named_row(&rest, &call[1], &call[2]) && strlen(rest) <= MOST_NAME)
+            call[0] = *word == 'n' ? ZUNDRAFL_NO : ZUNDRAFL_FILE;
         else if (strcmp(word, "step") != 0 || *rest) fail("is no log of this table", path);
-        if (call[0] == ZUNDRAFL_NO && row < ZUNDRAFL_MOST_ROWS) strcpy(object_names[row++], rest);
+        if (has_row(word) && row < ZUNDRAFL_MOST_ROWS) strcpy(object_names[row++], rest);
         memcpy(calls + words, call, sizeof call);
         words += 3;
     }
@@ -305,32 +317,62 @@ static int show_nearly(uint64_t percent) {
     return 1;
 }
 
-/* One reply to the question; 0 at the end of the replies. */
-static int reply(uint64_t premise, uint64_t conclusion) {
-    char line[LINE], *rest = line, *word;
-    uint64_t yes = 0, no = 0;
+/* Asks the question, or with an empty conclusion, when the interview is finished, whether there is another row. */
+static void ask(uint64_t premise, uint64_t conclusion) {
+    if (conclusion == 0) {
+        printf("Finished. Another row, or an empty line: ");
+        return;
+    }
     printf(premise ? "Does every row with " : "Does every row");
     if (premise) show_set(stdout, premise);
     printf(" have ");
     show_set(stdout, conclusion);
     printf("? ");
+}
+
+static void accept_rule(uint64_t premise, uint64_t conclusion) {
+    zundrafl_accept(&session, rows, ROW_WORDS, list, RULE_WORDS, background, background_words, &answer);
+    if (answer.code == ZUNDRAFL_TAKEN) write_call("yes", 0, 0, "");
+    else show_sentence(answer.code);
+    if (answer.code == ZUNDRAFL_REPLY_CONTRADICTS) explain(answer.first, premise, conclusion);
+}
+
+/* Takes a row, with a no or by itself. */
+static void take_row(const char *call, uint64_t yes, uint64_t no, const char *name) {
+    if (strlen(name) > MOST_NAME) {
+        fprintf(stderr, "A name has at most %d bytes.\n", MOST_NAME);
+        return;
+    }
+    if (strcmp(call, "no") == 0)
+        zundrafl_reject(&session, rows, ROW_WORDS, list, RULE_WORDS, background, background_words, yes, no, &answer);
+    else zundrafl_file_row(&session, rows, ROW_WORDS, list, RULE_WORDS, background, background_words, yes, no, &answer);
+    if (answer.code == ZUNDRAFL_TAKEN) strcpy(object_names[session.rows - 1], name), write_call(call, yes, no, name);
+    else show_sentence(answer.code);
+}
+
+static void test_row(uint64_t yes, uint64_t no) {
+    zundrafl_test_row(&session, rows, ROW_WORDS, list, RULE_WORDS, background, background_words, yes, no, &answer);
+    if (answer.code == ZUNDRAFL_REFUTES) puts("It refutes the question.");
+    else show_sentence(answer.code);
+}
+
+/* One line to what is asked; 0 at the end of the lines, and at an empty one when the interview is finished. */
+static int reply(uint64_t premise, uint64_t conclusion) {
+    char line[LINE], *rest = line, *word;
+    uint64_t yes = 0, no = 0;
+    int asked = conclusion != 0;
+    ask(premise, conclusion);
     fflush(stdout);
     if (!fgets(line, sizeof line, stdin)) return 0;
     word = next_word(&rest);
     lower(word);
-    if ((strcmp(word, "yes") == 0 || strcmp(word, "y") == 0) && !*rest) {
-        zundrafl_accept(&session, rows, ROW_WORDS, list, RULE_WORDS, background, background_words, &answer);
-        if (answer.code == ZUNDRAFL_TAKEN) return write_call("yes", 0, 0, ""), 1;
-        show_sentence(answer.code);
-        if (answer.code == ZUNDRAFL_REPLY_CONTRADICTS) explain(answer.first, premise, conclusion);
-    } else if ((strcmp(word, "no") == 0 || strcmp(word, "n") == 0) && read_named_row(&rest, &yes, &no)) {
-        if (strlen(rest) > MOST_NAME) return fprintf(stderr, "A name has at most %d bytes.\n", MOST_NAME), 1;
-        zundrafl_reject(&session, rows, ROW_WORDS, list, RULE_WORDS, background, background_words, yes, no, &answer);
-        if (answer.code == ZUNDRAFL_TAKEN) return strcpy(object_names[session.rows - 1], rest), write_call("no", yes, no, rest), 1;
-        show_sentence(answer.code);
-    } else {
-        fprintf(stderr, "Write yes, or no and %zu marks: X yes, . no, ? unknown.\n", layout.attributes);
-    }
+    if (!asked && !*word) return 0;
+    if (asked && is(word, "yes") && !*rest) accept_rule(premise, conclusion);
+    else if (asked && is(word, "no") && read_named_row(&rest, &yes, &no)) take_row("no", yes, no, rest);
+    else if (is(word, "row") && read_named_row(&rest, &yes, &no)) take_row("row", yes, no, rest);
+    else if (asked && is(word, "test") && read_named_row(&rest, &yes, &no) && !*rest) test_row(yes, no);
+    else if (asked) fprintf(stderr, "Write yes, or no, row or test and %zu marks: X yes, . no, ? unknown.\n", layout.attributes);
+    else fprintf(stderr, "Write row and %zu marks: X yes, . no, ? unknown; or an empty line.\n", layout.attributes);
     return 1;
 }
 
@@ -344,7 +386,7 @@ static void show_rules(int finished) {
     }
 }
 
-/* Writes the table with the counterexamples in it; 0 where that is refused. */
+/* Writes the table with your rows in it; 0 where that is refused. */
 static int save(const char *path) {
     static uint8_t names[sizeof file + sizeof object_names], text[ZUNDRAFL_MOST_BYTES];
     size_t length = layout.attribute_names - layout.object_names;
@@ -382,11 +424,10 @@ int main(int argc, char **argv) {
     for (;;) {
         zundrafl_step(&session, rows, ROW_WORDS, list, RULE_WORDS, background, background_words, &answer);
         if (zundrafl_is_refusal(&answer)) return refused();
-        if (answer.code == ZUNDRAFL_FINISHED) break;
+        finished = answer.code == ZUNDRAFL_FINISHED;
         if (answer.code == ZUNDRAFL_MOVED) write_call("step", 0, 0, "");
         else if (!reply(answer.first, answer.second)) break;
     }
-    finished = answer.code == ZUNDRAFL_FINISHED;
     show_rules(finished);
     if (saved && !save(saved)) return refused();
     return finished ? 0 : 1;

@@ -24,10 +24,11 @@ usage: interview [--background FILE] [--log FILE] [--save FILE] [--nearly PERCEN
   TABLE       a table in Burmeister's layout; X yes, . no, ? unknown
   background  rules that hold from the start, one a line: has fur, flies -> breathes air
   log         the interview so far is taken up from it, and written to it as it goes
-  save        the table with the rows of your replies is written to it at the end
+  save        the table with the rows that you gave is written to it at the end
   nearly      shown first: what more than this percentage of the rows with a property have too, and the rows that stand in the way
 Answer a question with yes (y), or with no (n) and a row of marks that refutes it; behind the marks the row may get a name.
-A mark that the rules imply may stay unknown.
+A mark that the rules imply may stay unknown. At a question, and when the interview is finished, row (r) and marks file a row that need
+not refute anything; at a question test (t) and marks say whether a row refutes it, and file nothing.
 ";
 
 /// Why an interview cannot go on: what to say, and the exit status.
@@ -68,7 +69,7 @@ struct Interview {
     background: Vec<u64>,
     objects: Vec<String>,
     attributes: Vec<String>,
-    /// The names of the counterexamples, empty for one without a name.
+    /// The names of the rows given, empty for one without a name.
     filed: Vec<Vec<u8>>,
 }
 
@@ -127,10 +128,12 @@ impl Interview {
             let call = match first_word(line) {
                 (b"step", b"") => Some([STEP, 0, 0]),
                 (b"yes", b"") => Some([YES, 0, 0]),
-                (b"no", row) => self.named_row(row).filter(|(_, name)| name.len() <= MOST_NAME).map(|((yes, no), name)| {
-                    self.filed.push(name.to_vec());
-                    [NO, yes, no]
-                }),
+                (word @ (b"no" | b"row"), row) => {
+                    self.named_row(row).filter(|(_, name)| name.len() <= MOST_NAME).map(|((yes, no), name)| {
+                        self.filed.push(name.to_vec());
+                        [if word == b"no" { NO } else { FILE }, yes, no]
+                    })
+                }
                 _ => None,
             };
             calls.extend(call.ok_or_else(|| wrong("is no log of this table", path.unwrap_or_default()))?);
@@ -170,6 +173,20 @@ impl Interview {
         a
     }
 
+    fn test_row(&self, yes: u64, no: u64) -> Answer {
+        let mut a = Answer::default();
+        let (r, l, b) = (self.rows.as_ptr(), self.list.as_ptr(), self.background.as_ptr());
+        unsafe { zundrafl_test_row(&self.session, r, ROW_WORDS, l, RULE_WORDS, b, self.background.len(), yes, no, &mut a) };
+        a
+    }
+
+    fn file_row(&mut self, yes: u64, no: u64) -> Answer {
+        let mut a = Answer::default();
+        let (r, l, b) = (self.rows.as_mut_ptr(), self.list.as_ptr(), self.background.as_ptr());
+        unsafe { zundrafl_file_row(&mut self.session, r, ROW_WORDS, l, RULE_WORDS, b, self.background.len(), yes, no, &mut a) };
+        a
+    }
+
     fn named(&self, set: u64) -> String {
         let names: Vec<_> = self.attributes.iter().enumerate().filter(|(i, _)| set >> i & 1 == 1).map(|(_, name)| name.as_str()).collect();
         if names.is_empty() { "nothing".to_string() } else { names.join(", ") }
@@ -203,7 +220,7 @@ impl Interview {
     fn row_name(&self, row: usize) -> String {
         let name = match row.checked_sub(self.objects.len()) {
             None => self.objects[row].clone(),
-            Some(filed) if self.filed[filed].is_empty() => format!("the {}. of your counterexamples", filed + 1),
+            Some(filed) if self.filed[filed].is_empty() => format!("the {}. of your rows", filed + 1),
             Some(filed) => String::from_utf8_lossy(&self.filed[filed]).into_owned(),
         };
         format!("row {} ({name})", row + 1)
@@ -287,30 +304,53 @@ impl Interview {
         Ok(format!("Nearly always (more than {percent} per cent):{nothing}\n{lines}"))
     }
 
-    /// One reply to the question: the call for the log where it was taken, else what to say.
-    fn reply(&mut self, line: &[u8], rule: [u64; 2]) -> Result<Vec<u8>, String> {
-        let (said, rest) = first_word(line);
+    /// What is asked: the question, or with an empty conclusion, when the interview is finished, whether there is another row.
+    fn asked(&self, [premise, conclusion]: [u64; 2]) -> String {
+        if conclusion == 0 {
+            return "Finished. Another row, or an empty line: ".to_string();
+        }
+        let with = if premise == 0 { String::new() } else { format!(" with {}", self.named(premise)) };
+        format!("Does every row{with} have {}? ", self.named(conclusion))
+    }
+
+    /// Takes a row, with a no or by itself: the call for the log, or what to say.
+    fn take_row(&mut self, call: &str, (yes, no): (u64, u64), name: &[u8]) -> Result<Vec<u8>, String> {
+        if name.len() > MOST_NAME {
+            return Err(format!("A name has at most {MOST_NAME} bytes.\n"));
+        }
+        let a = if call == "no" { self.reject(yes, no) } else { self.file_row(yes, no) };
+        if a.code != TAKEN {
+            return Err(sentence(a.code));
+        }
+        self.filed.push(name.to_vec());
+        let (marks, between) = (self.marks(yes, no), if name.is_empty() { "" } else { " " });
+        Ok([format!("{call} {marks}{between}").as_bytes(), name].concat())
+    }
+
+    /// One line to what is asked: the call for the log, nothing where a test passed, or what to say.
+    fn reply(&mut self, line: &[u8], rule: [u64; 2]) -> Result<Option<Vec<u8>>, String> {
+        let ((said, rest), n, asked) = (first_word(line), self.attributes.len(), rule[1] != 0);
         match (said.to_ascii_lowercase().as_slice(), rest, self.named_row(rest)) {
-            (b"yes" | b"y", b"", _) => match self.accept() {
-                a if a.code == TAKEN => Ok(b"yes".to_vec()),
+            (b"yes" | b"y", b"", _) if asked => match self.accept() {
+                a if a.code == TAKEN => Ok(Some(b"yes".to_vec())),
                 a if a.code == REPLY_CONTRADICTS => Err(sentence(a.code) + &self.explained(a.first as usize, rule)),
                 a => Err(sentence(a.code)),
             },
-            (b"no" | b"n", _, Some((_, name))) if name.len() > MOST_NAME => Err(format!("A name has at most {MOST_NAME} bytes.\n")),
-            (b"no" | b"n", _, Some(((yes, no), name))) => {
-                let a = self.reject(yes, no);
-                if a.code != TAKEN {
-                    return Err(sentence(a.code));
+            (b"no" | b"n", _, Some((row, name))) if asked => self.take_row("no", row, name).map(Some),
+            (b"row" | b"r", _, Some((row, name))) => self.take_row("row", row, name).map(Some),
+            (b"test" | b"t", _, Some(((yes, no), b""))) if asked => match self.test_row(yes, no) {
+                a if a.code == REFUTES => {
+                    println!("It refutes the question.");
+                    Ok(None)
                 }
-                self.filed.push(name.to_vec());
-                let between = if name.is_empty() { "" } else { " " };
-                Ok([b"no ", self.marks(yes, no).as_bytes(), between.as_bytes(), name].concat())
-            }
-            _ => Err(format!("Write yes, or no and {} marks: X yes, . no, ? unknown.\n", self.attributes.len())),
+                a => Err(sentence(a.code)),
+            },
+            _ if asked => Err(format!("Write yes, or no, row or test and {n} marks: X yes, . no, ? unknown.\n")),
+            _ => Err(format!("Write row and {n} marks: X yes, . no, ? unknown; or an empty line.\n")),
         }
     }
 
-    /// Writes the table with the counterexamples in it.
+    /// Writes the table with the rows given in it.
     fn save(&self, path: &str) -> Result<(), Stop> {
         let Layout { object_names, attribute_names, .. } = self.layout;
         let mut names = self.file[object_names..attribute_names].to_vec();
@@ -346,15 +386,18 @@ fn hold(files: &Files) -> Result<bool, Stop> {
     let finished = loop {
         let a = it.step();
         match a.code {
-            FINISHED => break true,
             MOVED => write_call(&mut record, b"step")?,
-            ASKED => {
-                let with = if a.first == 0 { String::new() } else { format!(" with {}", it.named(a.first)) };
-                print!("Does every row{with} have {}? ", it.named(a.second));
+            ASKED | FINISHED => {
+                let (rule, finished) = ([a.first, a.second], a.code == FINISHED);
+                print!("{}", it.asked(rule));
                 let _ = io::stdout().flush();
-                let Some(Ok(line)) = lines.next() else { break false };
-                match it.reply(&line, [a.first, a.second]) {
-                    Ok(call) => write_call(&mut record, &call)?,
+                let Some(Ok(line)) = lines.next() else { break finished };
+                if finished && first_word(&line).0.is_empty() {
+                    break true;
+                }
+                match it.reply(&line, rule) {
+                    Ok(Some(call)) => write_call(&mut record, &call)?,
+                    Ok(None) => {}
                     Err(why) => eprint!("{why}"),
                 }
             }

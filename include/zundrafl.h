@@ -23,7 +23,7 @@
 extern "C" {
 #endif
 
-enum { ZUNDRAFL_VERSION_MAJOR = 2, ZUNDRAFL_VERSION_MINOR = 0 }; /* minor: something was added; major: something was changed */
+enum { ZUNDRAFL_VERSION_MAJOR = 2, ZUNDRAFL_VERSION_MINOR = 1 }; /* minor: something was added; major: something was changed */
 
 enum {
     ZUNDRAFL_MOST_ATTRIBUTES = 64,
@@ -41,10 +41,10 @@ enum {
     ZUNDRAFL_MARKED_TWICE = 5,      /* row `place` marks an attribute both yes and no */
     ZUNDRAFL_ROW_CONTRADICTS = 6,   /* row `place` contradicts the rules in force */
     ZUNDRAFL_NOT_CLOSED = 7,        /* the current set is not closed */
-    ZUNDRAFL_NO_QUESTION = 8,       /* a reply, and no question stands */
+    ZUNDRAFL_NO_QUESTION = 8,       /* a reply or a test, and no question stands */
     ZUNDRAFL_BAD_ROW = 9,           /* the offered row: an attribute outside the n, or marked both ways */
     ZUNDRAFL_NOT_REFUTING = 10,     /* the offered row does not refute the question */
-    ZUNDRAFL_REPLY_CONTRADICTS = 11, /* with the reply row `place` (yes) or the offered row (no) contradicts */
+    ZUNDRAFL_REPLY_CONTRADICTS = 11, /* with the reply row `place` (yes) or the offered row (no, filing) contradicts */
     ZUNDRAFL_FULL = 12,             /* no place for the row or the rule */
     ZUNDRAFL_FILE_TOO_LONG = 21,
     ZUNDRAFL_NO_B = 22,             /* the first line is not `B` */
@@ -64,15 +64,24 @@ enum {
     ZUNDRAFL_FINISHED = 100,
     ZUNDRAFL_MOVED = 101,
     ZUNDRAFL_ASKED = 102,    /* premise, conclusion */
-    ZUNDRAFL_TAKEN = 103,    /* an accepted opening or reply, a log that was made, a table that was read or written, attributes that were listed */
+    ZUNDRAFL_TAKEN = 103,    /* an accepted opening, reply or filing, a log that was made, a table that was read or written, attributes that were listed */
     ZUNDRAFL_FOLLOWS = 104,  /* 1 or 0 */
     ZUNDRAFL_REFUTED = 105,  /* the lowest row that refutes */
     ZUNDRAFL_UNREFUTED = 106,
-    ZUNDRAFL_UNKNOWN = 107   /* in a log: a call of no known kind */
+    ZUNDRAFL_UNKNOWN = 107,  /* in a log: a call of no known kind */
+    ZUNDRAFL_REFUTES = 108   /* the offered row refutes the question */
 };
 
-/* kinds of calls in a log */
-enum { ZUNDRAFL_STEP = 0, ZUNDRAFL_YES = 1, ZUNDRAFL_NO = 2, ZUNDRAFL_ASK_FOLLOWS = 3, ZUNDRAFL_ASK_REFUTED = 4 };
+/* kinds of calls in a log, each with its two arguments; those of a step and a yes are not read */
+enum {
+    ZUNDRAFL_STEP = 0,
+    ZUNDRAFL_YES = 1,
+    ZUNDRAFL_NO = 2,          /* yes marks, no marks */
+    ZUNDRAFL_ASK_FOLLOWS = 3, /* premise, conclusion */
+    ZUNDRAFL_ASK_REFUTED = 4, /* premise, conclusion */
+    ZUNDRAFL_TEST = 5,        /* yes marks, no marks */
+    ZUNDRAFL_FILE = 6         /* yes marks, no marks */
+};
 
 /* the session record: attributes, rows and list rules in use, current set */
 typedef struct {
@@ -122,11 +131,23 @@ void zundrafl_step(zundrafl_session *session, const uint64_t *rows, size_t row_w
 void zundrafl_accept(zundrafl_session *session, const uint64_t *rows, size_t row_words, uint64_t *list, size_t list_words,
                      const uint64_t *background, size_t background_words, zundrafl_answer *answer);
 
-/* No to the standing question, with a row that refutes it: writes it as the next row, and *session. What the rules in force imply of the
- * row may be left unknown. 1 to 8; 9 the row has an attribute outside the n or marks one both ways; 10 it does not refute the question; 11
- * it contradicts the rules in force; 12 no place for a row. */
+/* No to the standing question, with a row that refutes it: the test and the filing below in turn, with the first refusal of the two. Writes
+ * the row as the next one, and *session. What the rules in force imply of the row may be left unknown. 1 to 8; 9 the row has an attribute
+ * outside the n or marks one both ways; 10 it does not refute the question; 11 it contradicts the rules in force; 12 no place for a row. */
 void zundrafl_reject(zundrafl_session *session, uint64_t *rows, size_t row_words, const uint64_t *list, size_t list_words,
                      const uint64_t *background, size_t background_words, uint64_t yes, uint64_t no, zundrafl_answer *answer);
+
+/* Whether a row refutes the standing question: REFUTES, or the refusal 10. A row that contradicts the rules in force lacks every attribute,
+ * so that it refutes if it has the premise. Writes *answer alone. 1 to 8; 9 the row has an attribute outside the n or marks one both ways;
+ * 10 it does not refute the question. */
+void zundrafl_test_row(const zundrafl_session *session, const uint64_t *rows, size_t row_words, const uint64_t *list, size_t list_words,
+                       const uint64_t *background, size_t background_words, uint64_t yes, uint64_t no, zundrafl_answer *answer);
+
+/* Files a row, at any time: it need not refute anything, and no question need stand, as when the session is finished. Writes it as the next
+ * row, and *session; the current set stays. 1 to 7; 9 the row has an attribute outside the n or marks one both ways; 11 it contradicts the
+ * rules in force; 12 no place for a row. */
+void zundrafl_file_row(zundrafl_session *session, uint64_t *rows, size_t row_words, const uint64_t *list, size_t list_words,
+                       const uint64_t *background, size_t background_words, uint64_t yes, uint64_t no, zundrafl_answer *answer);
 
 /* Whether a rule follows from background and list: FOLLOWS with 1 or 0. 1 to 7. */
 void zundrafl_follows(const zundrafl_session *session, const uint64_t *rows, size_t row_words, const uint64_t *list, size_t list_words,

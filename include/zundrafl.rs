@@ -3,7 +3,7 @@
 #![allow(dead_code)]
 
 pub const VERSION_MAJOR: u32 = 2;
-pub const VERSION_MINOR: u32 = 0;
+pub const VERSION_MINOR: u32 = 1;
 
 pub const MOST_ATTRIBUTES: usize = 64;
 pub const MOST_ROWS: usize = 512;
@@ -42,12 +42,15 @@ pub const FOLLOWS: u64 = 104;
 pub const REFUTED: u64 = 105;
 pub const UNREFUTED: u64 = 106;
 pub const UNKNOWN: u64 = 107;
+pub const REFUTES: u64 = 108;
 
 pub const STEP: u64 = 0;
 pub const YES: u64 = 1;
 pub const NO: u64 = 2;
 pub const ASK_FOLLOWS: u64 = 3;
 pub const ASK_REFUTED: u64 = 4;
+pub const TEST: u64 = 5;
+pub const FILE: u64 = 6;
 
 #[repr(C)]
 #[derive(Clone, Copy, Debug, Default, PartialEq, Eq)]
@@ -118,6 +121,30 @@ unsafe extern "C" {
         answer: *mut Answer,
     );
     pub fn zundrafl_reject(
+        session: *mut Session,
+        rows: *mut u64,
+        row_words: usize,
+        list: *const u64,
+        list_words: usize,
+        background: *const u64,
+        background_words: usize,
+        yes: u64,
+        no: u64,
+        answer: *mut Answer,
+    );
+    pub fn zundrafl_test_row(
+        session: *const Session,
+        rows: *const u64,
+        row_words: usize,
+        list: *const u64,
+        list_words: usize,
+        background: *const u64,
+        background_words: usize,
+        yes: u64,
+        no: u64,
+        answer: *mut Answer,
+    );
+    pub fn zundrafl_file_row(
         session: *mut Session,
         rows: *mut u64,
         row_words: usize,

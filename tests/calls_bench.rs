@@ -25,10 +25,10 @@ use std::hint::black_box;
 use std::time::{Duration, Instant};
 
 use library::{
-    zundrafl_accept, zundrafl_follows, zundrafl_nearly, zundrafl_open_session, zundrafl_refuted, zundrafl_reject,
-    zundrafl_replay, zundrafl_step, zundrafl_write_table,
+    zundrafl_accept, zundrafl_file_row, zundrafl_follows, zundrafl_nearly, zundrafl_open_session, zundrafl_refuted,
+    zundrafl_reject, zundrafl_replay, zundrafl_step, zundrafl_test_row, zundrafl_write_table,
 };
-use machine::{ACCEPTED, ASKED, Answer, FOLLOWS, MOVED, Record, UNREFUTED};
+use machine::{ACCEPTED, ASKED, Answer, FOLLOWS, MOVED, REFUTES, Record, UNREFUTED};
 use random::Random;
 use sets::Pair;
 
@@ -66,6 +66,8 @@ enum Call {
     Step,
     Yes,
     No(Pair),
+    Test(Pair),
+    File(Pair),
     Follows(Pair),
     Refuted(Pair),
     /// A log with the one call whether a rule follows.
@@ -86,6 +88,8 @@ fn by_model(state: &mut State, call: Call) -> Answer {
         Call::Step => machine::step(record, rows, list, background),
         Call::Yes => machine::yes(record, rows, list, background),
         Call::No(row) => machine::no(record, rows, list, background, row),
+        Call::Test(row) => machine::test(record, rows, list, background, row),
+        Call::File(row) => machine::file(record, rows, list, background, row),
         Call::Follows(rule) => machine::follows(record, rows, list, background, rule),
         Call::Refuted(rule) => machine::refuted(record, rows, list, background, rule),
         Call::Replay(rule) => machine::replay(record, rows, list, background, &log(rule), &mut [0; 3]),
@@ -109,6 +113,8 @@ fn by_library(state: &mut State, call: Call) -> Answer {
             Call::Step => zundrafl_step(s, r, r_len, l, l_len, b, b_len, a),
             Call::Yes => zundrafl_accept(s, r, r_len, l, l_len, b, b_len, a),
             Call::No((yes, no)) => zundrafl_reject(s, r, r_len, l, l_len, b, b_len, yes, no, a),
+            Call::Test((yes, no)) => zundrafl_test_row(s, r, r_len, l, l_len, b, b_len, yes, no, a),
+            Call::File((yes, no)) => zundrafl_file_row(s, r, r_len, l, l_len, b, b_len, yes, no, a),
             Call::Follows((premise, conclusion)) => {
                 zundrafl_follows(s, r, r_len, l, l_len, b, b_len, premise, conclusion, a)
             }
@@ -200,7 +206,8 @@ fn calls(random: &mut Random, n: usize, rows: usize, rules: usize) -> Vec<Measur
         }
     };
     let premise = asking.record.current;
-    // An accepted no needs a free place: the last row is not in use yet.
+    let refuting = (premise, all & !premise);
+    // An accepted row needs a free place: the last row is not in use yet.
     let mut one_free = asking.clone();
     one_free.record.rows -= 1;
 
@@ -214,7 +221,9 @@ fn calls(random: &mut Random, n: usize, rows: usize, rules: usize) -> Vec<Measur
         ("step, moves", moving.clone(), Call::Step, MOVED),
         ("step, asks", asking.clone(), Call::Step, ASKED),
         ("yes", asking, Call::Yes, ACCEPTED),
-        ("no", one_free, Call::No((premise, all & !premise)), ACCEPTED),
+        ("no", one_free.clone(), Call::No(refuting), ACCEPTED),
+        ("test", one_free.clone(), Call::Test(refuting), REFUTES),
+        ("filing", one_free, Call::File(refuting), ACCEPTED),
         ("follows", moving.clone(), Call::Follows(rule), FOLLOWS),
         ("refuted", moving.clone(), Call::Refuted((all, all)), UNREFUTED),
         ("replay", moving.clone(), Call::Replay(rule), ACCEPTED),

@@ -10,6 +10,10 @@ import sys
 import tempfile
 
 PETS = "examples/tables/pets"
+HINT = "Write yes, or no, row or test and 4 marks: X yes, . no, ? unknown.\n"
+LATE_HINT = "Write row and 4 marks: X yes, . no, ? unknown; or an empty line.\n"
+ANOTHER = "Finished. Another row, or an empty line: "
+REFUTES = "It refutes the question.\n"
 
 
 def sentences():
@@ -107,14 +111,14 @@ def interviews(runs):
         replies, wanted = replies.read(), wanted.read()
     with open(PETS) as table_file:
         pets = table_file.read()
-    said = runs.run([PETS], replies, 0, out=wanted, err="Write yes, or no and 4 marks: X yes, . no, ? unknown.\n" + refused(10))
+    said = runs.run([PETS], replies, 0, out=f"? {ANOTHER}\n{wanted}", err=HINT + refused(10))
     assert said.startswith("Does every row have breathes air? ") and "Does every row with flies have breathes air? " in said
     for end in ["\r\n", "\r"]:
         assert runs.run([runs.path("ended", pets.replace("\n", end))], replies, 0, out=wanted) == said
     loose = replies.replace("yes", " Y ").replace("no ", "N  ").replace("\n", "\r\n")
     runs.run([PETS], loose.replace(" Y ", "YES", 1).rstrip("\r\n"), 0, out=wanted)
     runs.run([PETS], "", 1, out="\n0 rules, 3 rows, not finished\n", err="")
-    runs.run([PETS], "no X...X\nyes please\n\n", 1, err="Write yes, or no and 4 marks: X yes, . no, ? unknown.\n" * 3)
+    runs.run([PETS], "no X...X\nyes please\n\n", 1, err=HINT * 3)
     lines = replies.splitlines(keepends=True)
     log = os.path.join(runs.folder, "log")
     runs.run([PETS, "--log", log], "".join(lines[:6]), 1, part=refused(10))
@@ -125,9 +129,10 @@ def interviews(runs):
     runs.run(["examples/tables/triangles", "--log", runs.path("notes", "hello\n")], "", 2, part="notes: is no log of this table\n")
 
     # The roof's log mark is unknown; since raw means log, it has it, and nothing is asked that it refutes by that.
-    asked = "Does every row with raw have log? \n1 rules, 5 rows\nraw -> log\n"
+    asked = f"Does every row with raw have log? {ANOTHER}\n1 rules, 5 rows\nraw -> log\n"
     assert runs.run(["examples/tables/raw_recordings"], "yes\n", 0, err="") == asked
-    assert runs.run(["examples/tables/raw_recordings", "--background", runs.path("agreed", "raw -> log\n")], "", 0, err="") == "\n0 rules, 5 rows\n"
+    asked = f"{ANOTHER}\n0 rules, 5 rows\n"
+    assert runs.run(["examples/tables/raw_recordings", "--background", runs.path("agreed", "raw -> log\n")], "", 0, err="") == asked
 
 
 def refusals(runs):
@@ -192,7 +197,7 @@ def saves(runs):
     runs.save([runs.path("none", table([], ["p", "q"], []))], "no .?\n", 1, table(["row 1"], ["p", "q"], [".?"], title=""))
     long = "A name has at most 80 bytes.\n"
     runs.save([PETS], "no ..X. " + "n" * 81 + "\nno ..X. " + "\u00e9" * 41 + "\n", 1, saved(), err=long * 2)
-    runs.save([PETS], "no ..X. a\rb\nno ..X.shark\n", 1, saved(), err="Write yes, or no and 4 marks: X yes, . no, ? unknown.\n" * 2)
+    runs.save([PETS], "no ..X. a\rb\nno ..X.shark\n", 1, saved(), err=HINT * 2)
 
     # A log keeps the names; one without names is taken as before.
     lines = named(mixed).splitlines(keepends=True)
@@ -212,11 +217,12 @@ def saves(runs):
         wrong = runs.path("wrong-log", wrong)
         runs.run([PETS, "--log", wrong], "", 2, out="", err=f"{wrong}: is no log of this table\n")
 
-    # A counterexample is spoken of by its name.
+    # A row that was given is spoken of by its name.
     none, rules = runs.path("none", table([], ["a", "b", "c", "d"], [])), runs.path("cases", "a, b, c -> d\n")
-    for name, shown in [(" early", "early"), ("", "the 1. of your counterexamples")]:
+    for name, shown in [(" early", "early"), ("", "the 1. of your rows")]:
         why = f"It is row 1 ({shown}): it has a, so by the rules it would have d, which it lacks.\n"
-        runs.run([none, "--background", rules], f"no X??.{name}\nyes\n", 1, part=refused(11) + why)
+        for call in ["no", "row"]:
+            runs.run([none, "--background", rules], f"{call} X??.{name}\nyes\n", 1, part=refused(11) + why)
 
     # Over the table itself, and where nothing can be written.
     path = runs.path("own", pets)
@@ -238,6 +244,89 @@ def saves(runs):
     runs.save([nearly], f"no {'.' * 64} {'r' * 79}\n", 1, longest, err="")
     runs.run([nearly, "--save", path], f"no {'.' * 64} {'r' * 80}\n", 1, out="\n0 rules, 512 rows, not finished\n", err=refused(30))
     assert not os.path.exists(path)
+
+
+def filings(runs):
+    with open("tests/interview.replies") as replies, open("tests/interview.list") as wanted:
+        replies, wanted = replies.read(), wanted.read()
+    filed = ["..X.", "X..X", "..XX", ".XXX", "X.XX", "XX.X"]
+    first = "Does every row have breathes air? "
+
+    def saved(given):
+        """The table with some rows more, given as marks and names."""
+        rows, marks = ["cat", "parrot", "goldfish", *given.values()], ["X?.X", ".X.X", "..X?", *given]
+        return table(rows, ["has fur", "flies", "swims", "breathes air"], marks, title="")
+
+    # A row that refutes the question does what a no does, and a test before it does nothing.
+    said = runs.run([PETS], replies, 0)
+    rows, tests = replies, replies
+    for marks in filed:
+        rows = rows.replace(f"no {marks}\n", f"row {marks}\n")
+        tests = tests.replace(f"no {marks}\n", f"test {marks}\nno {marks}\n")
+    assert runs.run([PETS], rows, 0, out=wanted, err=HINT + refused(10)) == said
+    loose = rows.replace("row ", " R\t").replace("\n", "\r\n")
+    assert runs.run([PETS], loose, 0, out=wanted, err=HINT + refused(10)) == said
+    plain, log = os.path.join(runs.folder, "untested-log"), os.path.join(runs.folder, "tested-log")
+    runs.run([PETS, "--log", plain], replies, 0)
+    tested = runs.run([PETS, "--log", log], tests.replace("test X", "T X"), 0, out=wanted, err=HINT + refused(10))
+    questions = tested.split(REFUTES)
+    assert len(questions) == 7 and tested.startswith(first + REFUTES + first)
+    assert all(one.endswith(other.split("? ")[0] + "? ") for one, other in zip(questions, questions[1:]))
+    with open(plain) as text:
+        runs.holds(log, text.read())
+    runs.run([PETS], "test X..X\ntest ..X?\n", 1, out=first * 3 + "\n0 rules, 3 rows, not finished\n", err=refused(10) * 2)
+    runs.run([PETS], "test ..X. shark\ntest ..X\ntest\nrow\nrow ..X\nrows ..X.\n", 1, out="\n0 rules, 3 rows, not finished\n", err=HINT * 6)
+
+    # Rows before the first reply, between the replies and when the interview is finished, with names and without.
+    lines = replies.replace("maybe\n", "").replace("no .X.?\n", "").splitlines(keepends=True)
+    early, late = "row X??X dog\nrow ????\n", "row ..?X frog\nROW XX?? a bat\n"
+    given = {"X??X": "dog", "????": "row 5", "..X.": "row 6", "?.?.": "stone", "X..X": "row 8", "..XX": "row 9", ".XXX": "row 10", "X.XX": "row 11",
+             "XX.X": "row 12", "..?X": "frog", "XX??": "a bat"}
+    whole = early + lines[0] + "r ?.?.  stone \n" + "".join(lines[1:])
+    ended = wanted.replace("9 rows", "14 rows")
+    said = runs.save([PETS], whole + late, 0, saved(given), out=f"{ANOTHER * 3}\n{ended}", err="")
+    assert said.startswith(first * 3)
+    assert runs.save([PETS], whole + late + "\nrow XXXX unread\n", 0, saved(given), out=ended, err="") == said
+    assert runs.save([PETS], whole + late + " \t\r\n", 0, saved(given), out=ended, err="") == said
+
+    # The log has them in their order, and is taken up at every line.
+    log = os.path.join(runs.folder, "filed-log")
+    for line in (whole + late).splitlines(keepends=True):
+        done = runs.run([PETS, "--log", log], line, int(line not in late and line != lines[-1]), err="")
+    assert done.endswith(f"{ANOTHER * 2}\n{ended}")
+    runs.save([PETS, "--log", log], "", 0, saved(given), out=f"{ANOTHER}\n{ended}", err="")
+    with open(log) as text:
+        text = text.read()
+    assert text.startswith("row X??X dog\nrow ????\n") and "no ..X.\nstep\nrow ?.?. stone\n" in text
+    assert text.endswith("step\nrow ..?X frog\nrow XX?? a bat\n")
+    for wrong in ["row\n", "row ..X\n", "row ..X. a\rb\n", f"row ..X. {'n' * 81}\n", "test ..X.\n"]:
+        wrong = runs.path("wrong-log", wrong)
+        runs.run([PETS, "--log", wrong], "", 2, out="", err=f"{wrong}: is no log of this table\n")
+    against = runs.path("against-log", "row X??.\n")
+    runs.run([PETS, "--log", against, "--background", runs.path("furry", "has fur -> breathes air\n")], "", 2, out="",
+             err=f"{against}: was written over another table or background\n")
+
+    # What is refused, at a question and when the interview is finished.
+    long = "A name has at most 80 bytes.\n"
+    runs.save([PETS], f"row ..X. {'n' * 81}\nrow ..X. a\rb\nrow ..X. {'n' * 80}\n", 1, saved({"..X.": "n" * 80}), err=long + HINT)
+    wrong = ["yes", "no ..X.", "test ..X.", "row ..X", "row", "?"]
+    runs.save([PETS], replies + "\n".join(wrong) + f"\nrow ?X?. stone\nrow ..X. {'n' * 81}\n", 0,
+              saved({marks: f"row {number}" for number, marks in enumerate(filed, 4)}), out=f"{ANOTHER * 9}\n{wanted}",
+              err=HINT + refused(10) + LATE_HINT * 6 + refused(11) + long)
+    unsure = [runs.path("unsure", table(["r"], ["a", "b", "c"], ["X?."])), "--background", runs.path("rules", "a -> b\n")]
+    runs.run(unsure, "row X.?\n", 1, out="\n0 rules, 1 rows, not finished\n", err=refused(11))
+    # A row that contradicts lacks everything: it refutes, and is not filed.
+    runs.run(unsure, "test X.?\nno X.?\n", 1, out=f"{REFUTES}Does every row have a, b? Does every row have a, b? \n0 rules, 1 rows, not finished\n",
+             err=refused(11))
+    full = [runs.path("full", table([str(i) for i in range(512)], ["a", "b"], ["??"] * 512)), "--background", runs.path("cases", "a -> b\n")]
+    runs.run(full, "row .?\nrow X.\ntest .?\n", 1, out=f"? {REFUTES}Does every row have a, b? \n0 rules, 512 rows, not finished\n",
+             err=refused(12) + refused(11))
+    full = runs.path("full", table([str(i) for i in range(512)], ["a"], ["."] * 512))
+    assert runs.run([full], "row ?\n", 0, err=refused(12)) == f"{ANOTHER * 2}\n0 rules, 512 rows\n"
+
+    # A row that takes the question away.
+    one = runs.path("one", table(["r"], ["a"], ["?"]))
+    assert runs.run([one], "row .\n", 0, err="") == f"Does every row have a? {ANOTHER}\n0 rules, 2 rows\n"
 
 
 def table_parts(text):
@@ -355,7 +444,7 @@ def main():
     for program in sys.argv[1:]:
         with tempfile.TemporaryDirectory() as folder:
             runs = Runs(os.path.abspath(program), folder)
-            for part in [uses, files, interviews, refusals, saves, listings]:
+            for part in [uses, files, interviews, refusals, saves, filings, listings]:
                 part(runs)
             shown.append(runs.shown)
             print(f"{program}: {len(runs.shown)} runs say what they have to")

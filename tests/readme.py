@@ -26,8 +26,9 @@ def holds(interview, table, asked):
     """Whether an interview over a table with the replies shown says what is shown."""
     replies = [line.split("? ")[1] for line in asked if "? " in line]
     held = run(interview, [table], "\n".join(replies).encode()).decode()
-    wanted = "".join(line.split("? ")[0] + "? " if "? " in line else line + "\n" for line in asked)
-    return held.replace("\n", "") == wanted.replace("\n", "")
+    # What is asked at the end has an empty reply, and no space shown before it.
+    wanted = "".join(line.split("? ")[0] + "? " if "? " in line else line + " " if line.endswith(":") else line for line in asked)
+    return held.replace("\n", "") == wanted
 
 
 def main():

@@ -1,5 +1,6 @@
 /* A record or a layout in memory that cannot be written: the calls that only read, a step that asks and every refusal leave it alone. An
- * output in such memory: a writing that is refused leaves it alone. Row words in such memory: a listing leaves them alone, refused or not. */
+ * output in such memory: a writing that is refused leaves it alone. Row words in such memory: a test and a listing leave them alone, refused
+ * or not, and so does a filing that is refused. */
 #define _DEFAULT_SOURCE
 #include "zundrafl.h"
 #include <stdio.h>
@@ -46,7 +47,9 @@ int main(void)
     uint8_t *out = locked(nothing, sizeof nothing);
     static const uint64_t marked[6] = {3, 0, 1, 2, 3, 3}; /* the third row marks both attributes both ways */
     uint64_t *marks = locked(marked, sizeof marked);
-    if (asked == NULL || full == NULL || kept == NULL || out == NULL || marks == NULL)
+    zundrafl_session two = {2, 2, 0, 0};
+    zundrafl_session *filed = locked(&two, sizeof two);
+    if (asked == NULL || full == NULL || kept == NULL || out == NULL || marks == NULL || filed == NULL)
         return 1;
 
     zundrafl_follows(asked, rows, 4, list, 4, background, 0, 0, 1, &answer);
@@ -65,6 +68,16 @@ int main(void)
     expect("a yes without a place", &answer, 12);
     zundrafl_reject(asked, rows, 4, list, 4, background, 0, 4, 1, &answer);
     expect("a refused no", &answer, 9);
+    zundrafl_test_row(filed, marks, 6, list, 4, background, 0, 0, 1, &answer);
+    expect("a row that refutes the question", &answer, ZUNDRAFL_REFUTES);
+    zundrafl_test_row(filed, marks, 6, list, 4, background, 0, 0, 2, &answer);
+    expect("a row that does not refute it", &answer, ZUNDRAFL_NOT_REFUTING);
+    zundrafl_test_row(full, marks, 6, list, 4, background, 0, 0, 1, &answer);
+    expect("a test without a question", &answer, ZUNDRAFL_NO_QUESTION);
+    zundrafl_file_row(filed, marks, 6, list, 4, background, 0, 4, 1, &answer);
+    expect("a refused filing", &answer, ZUNDRAFL_BAD_ROW);
+    zundrafl_file_row(filed, marks, 4, list, 4, background, 0, 0, 1, &answer);
+    expect("a filing without a place", &answer, ZUNDRAFL_FULL);
     zundrafl_open_session(asked, 65, 0, rows, 4, list, 4, background, 0, &answer);
     expect("a refused opening", &answer, 1);
     zundrafl_replay(asked, rows, 4, list, 4, background, 0, background, 2, list, 0, &answer);

@@ -126,12 +126,12 @@ fn main() -> ExitCode {
             _ => sessions::play(random, &mut tally),
         };
         if let Err(report) = played {
-            println!("the library differs from the model in the script of seed {seed}\n{report}");
+            println!("a difference in the script of seed {seed}\n{report}");
             return ExitCode::FAILURE;
         }
     }
 
-    let tables = [sessions::KINDS, sessions::IMPLIED, files::KINDS, listings::KINDS];
+    let tables = [sessions::KINDS, sessions::FILED, sessions::IMPLIED, files::KINDS, listings::KINDS];
     for kinds in tables {
         let kinds: Vec<&str> = kinds.iter().map(|&(kind, _)| kind).collect();
         tally.print(&kinds);

@@ -1,5 +1,6 @@
 //! The plain machine of document 01 ("The interview", refusals 1 to 12): every call of a session over lent words of any
-//! length and content, with rows having and lacking what their marks imply (request 5/13). A refused call changes nothing.
+//! length and content, with rows having and lacking what their marks imply (request 5/13), and with the no in two calls, test
+//! and filing (request 6/13). A refused call changes nothing.
 
 use crate::sets::{self, Pair};
 
@@ -15,6 +16,7 @@ pub const FOLLOWS: u64 = 104;
 pub const REFUTED: u64 = 105;
 pub const UNREFUTED: u64 = 106;
 pub const UNKNOWN_KIND: u64 = 107;
+pub const REFUTES: u64 = 108;
 
 /// The words of a call in a log, and of its answer.
 pub const CALL_WORDS: usize = 3;
@@ -134,6 +136,39 @@ impl Held {
     fn next(&self, current: u64) -> u64 {
         sets::next(&self.rules, self.n, current).expect("a set before the last has a next one")
     }
+
+    /// Check 9 of an offered row.
+    fn check_offered(&self, (yes, no): Pair) -> Result<(), Answer> {
+        if (yes | no) & !sets::all(self.n) != 0 || yes & no != 0 {
+            return Err(Answer::refusal(9, 0));
+        }
+        Ok(())
+    }
+
+    /// Whether an offered row refutes the standing question.
+    fn test(&self, record: &Record, offered: Pair) -> Result<Answer, Answer> {
+        let question = self.question(record.current).ok_or(Answer::refusal(8, 0))?;
+        self.check_offered(offered)?;
+        if !sets::implied_refutes(&self.rules, self.n, offered, question) {
+            return Err(Answer::refusal(10, 0));
+        }
+        Ok(Answer::new(REFUTES, 0, 0))
+    }
+
+    /// Makes an offered row the next row.
+    fn file(&self, record: &mut Record, rows: &mut [u64], offered: Pair) -> Result<Answer, Answer> {
+        self.check_offered(offered)?;
+        if contradicted(&[offered], &self.rules).is_some() {
+            return Err(Answer::refusal(11, 0));
+        }
+        let at = 2 * record.rows;
+        if at == rows.len() {
+            return Err(Answer::refusal(12, 0));
+        }
+        (rows[at], rows[at + 1]) = offered;
+        record.rows += 1;
+        Ok(Answer::accepted())
+    }
 }
 
 fn settle(attempt: impl FnOnce() -> Result<Answer, Answer>) -> Answer {
@@ -181,26 +216,20 @@ pub fn yes(record: &mut Record, rows: &[u64], list: &mut [u64], background: &[u6
     })
 }
 
+pub fn test(record: &Record, rows: &[u64], list: &[u64], background: &[u64], offered: Pair) -> Answer {
+    settle(|| check_session(record, &Lent { rows, list, background }, &[])?.test(record, offered))
+}
+
+pub fn file(record: &mut Record, rows: &mut [u64], list: &[u64], background: &[u64], offered: Pair) -> Answer {
+    settle(|| check_session(record, &Lent { rows, list, background }, &[])?.file(record, rows, offered))
+}
+
+/// The test and the filing in turn.
 pub fn no(record: &mut Record, rows: &mut [u64], list: &[u64], background: &[u64], offered: Pair) -> Answer {
     settle(|| {
         let held = check_session(record, &Lent { rows, list, background }, &[])?;
-        let question = held.question(record.current).ok_or(Answer::refusal(8, 0))?;
-        if (offered.0 | offered.1) & !sets::all(record.n) != 0 || offered.0 & offered.1 != 0 {
-            return Err(Answer::refusal(9, 0));
-        }
-        if !sets::implied_refutes(&held.rules, held.n, offered, question) {
-            return Err(Answer::refusal(10, 0));
-        }
-        if contradicted(&[offered], &held.rules).is_some() {
-            return Err(Answer::refusal(11, 0));
-        }
-        let at = 2 * record.rows;
-        if at == rows.len() {
-            return Err(Answer::refusal(12, 0));
-        }
-        (rows[at], rows[at + 1]) = offered;
-        record.rows += 1;
-        Ok(Answer::accepted())
+        held.test(record, offered)?;
+        held.file(record, rows, offered)
     })
 }
 
@@ -243,6 +272,8 @@ pub fn replay(
             2 => no(record, rows, list, background, pair),
             3 => follows(record, rows, list, background, pair),
             4 => refuted(record, rows, list, background, pair),
+            5 => test(record, rows, list, background, pair),
+            6 => file(record, rows, list, background, pair),
             _ => Answer::new(UNKNOWN_KIND, 0, 0),
         };
         written.copy_from_slice(&[answer.code, answer.first, answer.second]);

@@ -1,12 +1,14 @@
-//! Scripts of session calls: interviews with truthful and with random replies, damaged records and words, logs.
+//! Scripts of session calls: interviews with truthful and with random replies and filings, damaged records and words, logs.
 
 use crate::Tally;
 use crate::fenced::{FENCE_ANSWER, FENCE_WORD, Fenced};
 use crate::library::{
-    zundrafl_accept, zundrafl_follows, zundrafl_open_and_replay, zundrafl_open_session, zundrafl_refuted, zundrafl_reject,
-    zundrafl_replay, zundrafl_step,
+    zundrafl_accept, zundrafl_file_row, zundrafl_follows, zundrafl_open_and_replay, zundrafl_open_session,
+    zundrafl_refuted, zundrafl_reject, zundrafl_replay, zundrafl_step, zundrafl_test_row,
 };
-use crate::machine::{self, ASKED, Answer, CALL_WORDS, FINISHED, MAX_ROW_WORDS, MAX_RULE_WORDS, REFUTED, Record};
+use crate::machine::{
+    self, ASKED, Answer, CALL_WORDS, FINISHED, MAX_ROW_WORDS, MAX_RULE_WORDS, REFUTED, REFUTES, Record, UNREFUTED,
+};
 use crate::random::Random;
 use crate::sets::{self, Pair};
 use crate::{hex, show};
@@ -17,31 +19,51 @@ pub const KINDS: &[(&str, &[u64])] = &[
     ("step", &[1, 2, 3, 4, 5, 6, 7, 100, 101, 102]),
     ("yes", &[1, 2, 3, 4, 5, 6, 7, 8, 11, 12, 103]),
     ("no", &[1, 2, 3, 4, 5, 6, 7, 8, 9, 10, 11, 12, 103]),
+    ("test", &[1, 2, 3, 4, 5, 6, 7, 8, 9, 10, 108]),
+    ("filing", &[1, 2, 3, 4, 5, 6, 7, 9, 11, 12, 103]),
     ("follows", &[1, 2, 3, 4, 5, 6, 7, 104]),
     ("refuted", &[1, 2, 3, 4, 5, 6, 7, 105, 106]),
     ("replay", &[3, 103]),
     ("open and replay", &[1, 2, 3, 4, 5, 6, 103]),
-    ("logged", &[1, 2, 3, 4, 5, 6, 7, 8, 9, 10, 11, 12, 100, 101, 102, 103, 104, 105, 106, 107]),
+    ("logged", &[1, 2, 3, 4, 5, 6, 7, 8, 9, 10, 11, 12, 100, 101, 102, 103, 104, 105, 106, 107, 108]),
 ];
 
-/// The calls that the marks as written would answer otherwise, counted again: steps and yeses by their question, nos by
-/// whether the row refutes it, rules by the first row that refutes them. Of the nos once more those whose row is not marked
-/// yes in the whole premise, and those whose row is not marked no in the conclusion, and refutes it all the same.
+/// The filings that come through checks 1 to 7, counted again by whether a question stands, none does, or the current set is
+/// M; and once more those after a finished interview, and the rules asked about behind them.
+pub const FILED: &[(&str, &[u64])] = &[
+    (FILED_ASKED, &[9, 11, 12, 103]),
+    (FILED_UNASKED, &[9, 11, 12, 103]),
+    (FILED_AT_M, &[9, 11, 12, 103]),
+    (FILED_LATE, &[9, 11, 12, 103]),
+    (DECIDED_LATE, &[105, 106]),
+];
+
+const FILED_ASKED: &str = "filed asked";
+const FILED_UNASKED: &str = "filed unasked";
+const FILED_AT_M: &str = "filed at M";
+const FILED_LATE: &str = "filed late";
+const DECIDED_LATE: &str = "decided late";
+
+/// The calls that the marks as written would answer otherwise, counted again: steps and yeses by their question, nos and tests
+/// by whether the row refutes it, rules by the first row that refutes them. Of the nos and the tests once more those whose row
+/// is not marked yes in the whole premise, and those whose row is not marked no in the conclusion, and refutes it all the same.
 pub const IMPLIED: &[(&str, &[u64])] = &[
     (IMPLIED_STEP, &[101, 102]),
     (IMPLIED_YES, &[8, 12, 103]),
-    (IMPLIED_NO, &[8, 10, 11, 12, 103]),
+    (IMPLIED_NO[0], &[8, 10, 11, 12, 103]),
     (IMPLIED_REFUTED, &[105]),
-    (IMPLIED_PREMISE, &[11, 12, 103]),
-    (IMPLIED_LACK, &[11, 103]),
+    (IMPLIED_NO[1], &[11, 12, 103]),
+    (IMPLIED_NO[2], &[11, 103]),
+    (IMPLIED_TEST[0], &[8, 10, 108]),
+    (IMPLIED_TEST[1], &[108]),
+    (IMPLIED_TEST[2], &[108]),
 ];
 
 const IMPLIED_STEP: &str = "step implied";
 const IMPLIED_YES: &str = "yes implied";
-const IMPLIED_NO: &str = "no implied";
+const IMPLIED_NO: [&str; 3] = ["no implied", "premise implied", "lack implied"];
+const IMPLIED_TEST: [&str; 3] = ["test implied", "premise tested", "lack tested"];
 const IMPLIED_REFUTED: &str = "refuted implied";
-const IMPLIED_PREMISE: &str = "premise implied";
-const IMPLIED_LACK: &str = "lack implied";
 
 /// No interview of a script has more calls than this.
 const MAX_CALLS: usize = 500;
@@ -63,6 +85,8 @@ enum Call {
     Step,
     Yes,
     No(Pair),
+    Test(Pair),
+    File(Pair),
     Follows(Pair),
     Refuted(Pair),
     Replay { calls: Vec<u64>, answers: Vec<u64> },
@@ -87,6 +111,8 @@ impl Call {
             Call::Step => "step",
             Call::Yes => "yes",
             Call::No(_) => "no",
+            Call::Test(_) => "test",
+            Call::File(_) => "filing",
             Call::Follows(_) => "follows",
             Call::Refuted(_) => "refuted",
             Call::Replay { .. } => "replay",
@@ -107,7 +133,9 @@ impl Call {
         match self {
             Call::Open { n, used } => format!("{kind}, n {n}, rows in use {used}"),
             Call::Step | Call::Yes => kind.to_string(),
-            Call::No(pair) | Call::Follows(pair) | Call::Refuted(pair) => format!("{kind} {:#x} {:#x}", pair.0, pair.1),
+            Call::No(pair) | Call::Test(pair) | Call::File(pair) | Call::Follows(pair) | Call::Refuted(pair) => {
+                format!("{kind} {:#x} {:#x}", pair.0, pair.1)
+            }
             Call::Replay { calls, answers } => format!("{kind}\n  log {}\n  answers {}", hex(calls), hex(answers)),
             Call::OpenAndReplay { n, used, calls, answers } => {
                 let (calls, answers) = (hex(calls), hex(answers));
@@ -143,6 +171,8 @@ fn by_model(state: &State, call: &Call) -> Outcome {
         Call::Step => machine::step(record, rows, list, background),
         Call::Yes => machine::yes(record, rows, list, background),
         Call::No(row) => machine::no(record, rows, list, background, row),
+        Call::Test(row) => machine::test(record, rows, list, background, row),
+        Call::File(row) => machine::file(record, rows, list, background, row),
         Call::Follows(rule) => machine::follows(record, rows, list, background, rule),
         Call::Refuted(rule) => machine::refuted(record, rows, list, background, rule),
         Call::Replay { .. } => machine::replay(record, rows, list, background, &calls, &mut answers),
@@ -170,6 +200,8 @@ fn by_library(state: &State, call: &Call) -> Outcome {
             Call::Step => zundrafl_step(s, r, r_len, l, l_len, b, b_len, a),
             Call::Yes => zundrafl_accept(s, r, r_len, l, l_len, b, b_len, a),
             Call::No((yes, no)) => zundrafl_reject(s, r, r_len, l, l_len, b, b_len, yes, no, a),
+            Call::Test((yes, no)) => zundrafl_test_row(s, r, r_len, l, l_len, b, b_len, yes, no, a),
+            Call::File((yes, no)) => zundrafl_file_row(s, r, r_len, l, l_len, b, b_len, yes, no, a),
             Call::Follows((premise, conclusion)) => {
                 zundrafl_follows(s, r, r_len, l, l_len, b, b_len, premise, conclusion, a)
             }
@@ -200,6 +232,16 @@ fn by_library(state: &State, call: &Call) -> Outcome {
     }
 }
 
+/// A row tested, and filed where it refutes the question.
+fn in_turn(make: fn(&State, &Call) -> Outcome, state: &State, row: Pair) -> Outcome {
+    let tested = make(state, &Call::Test(row));
+    if tested.answer.code != REFUTES {
+        return tested;
+    }
+    let filed = make(&tested.state, &Call::File(row));
+    Outcome { inside: tested.inside && filed.inside, ..filed }
+}
+
 /// What a step asks, with an empty conclusion where it does not.
 fn standing(state: &State) -> Pair {
     let Answer { code, first, second } = by_model(state, &Call::Step).answer;
@@ -221,10 +263,11 @@ fn in_force(state: &State) -> Vec<Pair> {
 }
 
 /// The marked cases of implied marks, each in the current set {0} with one row in use: n, the background rule, the row, a
-/// reply, and the number that it is refused with, at place 0.
-const MARKED: [(usize, Pair, Pair, Call, u64); 3] = [
+/// reply or a test, and the number that it is refused with, at place 0.
+const MARKED: [(usize, Pair, Pair, Call, u64); 4] = [
     (3, (0b011, 0b100), (0b001, 0b100), Call::Yes, 8),
     (3, (0b011, 0b100), (0b001, 0b100), Call::No((0b001, 0b010)), 8),
+    (3, (0b011, 0b100), (0b001, 0b100), Call::Test((0b001, 0b010)), 8),
     (4, (0b0111, 0b1000), (0b0001, 0b1000), Call::Yes, 11),
 ];
 
@@ -250,8 +293,10 @@ struct Script<'a> {
     random: Random,
     tally: &'a mut Tally,
     state: State,
-    /// The complete table that truthful replies come from.
+    /// The complete table that truthful replies and filings come from.
     truth: Vec<Pair>,
+    /// The session comes from an accepted opening.
+    opened: bool,
     /// The calls before, for the report of a failure.
     played: Vec<(Call, Answer)>,
 }
@@ -260,25 +305,26 @@ pub fn play(mut random: Random, tally: &mut Tally) -> Result<(), String> {
     let record =
         Record { n: random.below(99), rows: random.below(99), rules: random.below(99), current: random.word() };
     let state = State { record, rows: vec![], list: vec![], background: vec![] };
-    let mut script = Script { random, tally, state, truth: vec![], played: vec![] };
+    let mut script = Script { random, tally, state, truth: vec![], opened: false, played: vec![] };
     match script.random.below(5) {
         0 => {
             script.make_soup();
-            script.drive(6, 2, false)
+            script.drive(9, 2, false)
         }
         1 => {
             script.make_middle();
-            script.drive(12, 2, true)
+            script.drive(18, 2, true)
         }
         2 => {
             script.make_unsure();
-            script.drive(20, 2, true)
+            script.drive(30, 2, true)
         }
         _ => {
             let (noise, honest) = (3 + script.random.below(40), script.random.below(2) == 0);
             let call = script.make_start();
             script.call_damaged(call.clone())?;
             script.state = script.call(script.state.clone(), call)?.state;
+            script.opened = true;
             script.drive(MAX_CALLS, noise, honest)
         }
     }
@@ -439,9 +485,20 @@ impl Script<'_> {
         let expected = by_model(&state, &call);
         let found = by_library(&state, &call);
         if found != expected {
-            return Err(self.report(&state, &call, &expected, &found));
+            return Err(self.report(&state, &call, &expected, "library", &found));
+        }
+        if let Call::No(row) = call {
+            for (who, found) in [
+                ("test and filing by the model", in_turn(by_model, &state, row)),
+                ("test and filing by the library", in_turn(by_library, &state, row)),
+            ] {
+                if found != expected {
+                    return Err(self.report(&state, &call, &expected, who, &found));
+                }
+            }
         }
         self.tally.add(call.kind(), expected.answer.code);
+        self.tally_filing(&state, &call, &expected.answer);
         self.tally_implied(&state, &call, &expected.answer);
         if matches!(call, Call::Replay { .. }) && expected.answer == Answer::accepted() {
             let count = expected.calls.len() / CALL_WORDS;
@@ -451,6 +508,19 @@ impl Script<'_> {
         }
         self.played.push((call, expected.answer));
         Ok(expected)
+    }
+
+    /// Counts a filing again by what stands.
+    fn tally_filing(&mut self, state: &State, call: &Call, answer: &Answer) {
+        if !matches!(call, Call::File(_)) || answer.code < 9 {
+            return;
+        }
+        let kind = match standing(state) {
+            (current, _) if current == sets::all(state.record.n) => FILED_AT_M,
+            (_, 0) => FILED_UNASKED,
+            _ => FILED_ASKED,
+        };
+        self.tally.add(kind, answer.code);
     }
 
     /// Counts an answer again if the marks as written would not give it.
@@ -469,7 +539,8 @@ impl Script<'_> {
                     self.tally.add(kind, code);
                 }
             }
-            Call::No(row) => {
+            Call::No(row) | Call::Test(row) => {
+                let [refuting, premise, lack] = if matches!(call, Call::No(_)) { IMPLIED_NO } else { IMPLIED_TEST };
                 let by_written = match written.1 {
                     0 => 8,
                     _ if sets::refutes(row, written) => 11,
@@ -477,13 +548,13 @@ impl Script<'_> {
                 };
                 // 9 is the same by both; all that comes after 10 has passed it.
                 if code != 9 && code.min(11) != by_written {
-                    self.tally.add(IMPLIED_NO, code);
+                    self.tally.add(refuting, code);
                 }
                 if code > 10 && current & !row.0 != 0 {
-                    self.tally.add(IMPLIED_PREMISE, code);
+                    self.tally.add(premise, code);
                 }
                 if code > 10 && standing(state).1 & row.1 == 0 {
-                    self.tally.add(IMPLIED_LACK, code);
+                    self.tally.add(lack, code);
                 }
             }
             Call::Refuted(rule) => {
@@ -496,10 +567,10 @@ impl Script<'_> {
         }
     }
 
-    fn report(&self, state: &State, call: &Call, expected: &Outcome, found: &Outcome) -> String {
+    fn report(&self, state: &State, call: &Call, expected: &Outcome, who: &str, found: &Outcome) -> String {
         let before = self.played.iter().map(|(call, answer)| format!("{}\n  answer {}\n", call.show(), show(answer)));
         format!(
-            "calls before:\n{}failing call:\n{}\n{}model:\n{}library:\n{}",
+            "calls before:\n{}failing call:\n{}\n{}model:\n{}{who}:\n{}",
             before.collect::<String>(),
             call.show(),
             show_state(state),
@@ -508,24 +579,39 @@ impl Script<'_> {
         )
     }
 
-    /// Steps and truthful replies to the end, one call in `noise` another one. Honest scripts forget what those change.
+    /// Steps, truthful replies and filings to the end, one call in `noise` another one. Honest scripts forget what those change.
     fn drive(&mut self, calls: usize, noise: usize, honest: bool) -> Result<(), String> {
         for _ in 0..calls {
             if self.chance(noise) {
                 self.disturb(honest)?;
                 continue;
             }
+            if self.chance(10) {
+                if let Some(row) = self.truthful_row() {
+                    self.file(row, honest)?;
+                }
+                // Another row, which is not kept.
+                let row = self.any_filed(&self.state.clone());
+                self.call(self.state.clone(), Call::File(row))?;
+                continue;
+            }
             let stepped = self.call(self.state.clone(), Call::Step)?;
             self.state = stepped.state;
             if stepped.answer.code == FINISHED {
-                self.disturb(honest)?;
-                return self.disturb(honest);
+                if self.opened {
+                    self.file_late(honest)?;
+                }
+                for _ in 0..3 {
+                    self.disturb(honest)?;
+                }
+                return Ok(());
             }
             if stepped.answer.code == ASKED {
-                if self.chance(4) {
-                    // Another reply, of which nothing is kept.
-                    let reply = if self.chance(2) { Call::Yes } else { Call::No(self.any_row(&self.state.clone())) };
-                    self.call(self.state.clone(), reply)?;
+                if self.chance(3) {
+                    // Another reply, or a test, of which nothing is kept.
+                    let row = self.any_row(&self.state.clone());
+                    let call = [Call::Yes, Call::No(row), Call::Test(row)][self.random.below(3)].clone();
+                    self.call(self.state.clone(), call)?;
                 }
                 let reply = self.truthful(&self.state.clone(), (stepped.answer.first, stepped.answer.second));
                 let replied = self.call(self.state.clone(), reply)?;
@@ -536,6 +622,67 @@ impl Script<'_> {
             }
         }
         Ok(())
+    }
+
+    /// Some of the marks of a row of the complete table, if it has a row.
+    fn truthful_row(&mut self) -> Option<Pair> {
+        let last = self.truth.len().checked_sub(1)?;
+        let (yes, no) = self.truth[self.random.below(last + 1)];
+        Some((self.random.subset(yes), self.random.subset(no)))
+    }
+
+    /// Files a row and keeps it. In an honest script it is truthful, and contradicts nothing.
+    fn file(&mut self, row: Pair, honest: bool) -> Result<u64, String> {
+        let call = Call::File(row);
+        let Outcome { answer, state, .. } = self.call(self.state.clone(), call.clone())?;
+        if honest && answer.code == 11 {
+            return Err(format!("a truthful row contradicts:\n{}\n{}", call.show(), show_state(&state)));
+        }
+        self.state = state;
+        Ok(answer.code)
+    }
+
+    /// Rows that turn up after a finished interview. It stays finished, and its list decides every rule with them as well.
+    fn file_late(&mut self, honest: bool) -> Result<(), String> {
+        self.ask_rules()?;
+        for _ in 0..1 + self.random.below(3) {
+            let row = match honest || self.chance(2) {
+                true => self.truthful_row(),
+                false => Some(self.any_filed(&self.state.clone())),
+            };
+            if let Some(row) = row {
+                let code = self.file(row, honest)?;
+                self.tally.add(FILED_LATE, code);
+            }
+        }
+        let stepped = self.call(self.state.clone(), Call::Step)?;
+        if stepped.answer.code != FINISHED {
+            return Err(format!("finished no more after a filing:\n{}", show_state(&self.state)));
+        }
+        for code in self.ask_rules()? {
+            self.tally.add(DECIDED_LATE, code);
+        }
+        Ok(())
+    }
+
+    /// Asks about some rules over M: each follows just if no row refutes it. Returns the codes of whether it is refuted.
+    fn ask_rules(&mut self) -> Result<Vec<u64>, String> {
+        let state = self.state.clone();
+        let all = sets::all(state.record.n);
+        let mut codes = vec![];
+        for _ in 0..4 {
+            let (premise, conclusion) = self.any_rule(&state);
+            let rule = (premise & all, conclusion & all);
+            let follows = self.call(state.clone(), Call::Follows(rule))?.answer.first == 1;
+            let refuted = Call::Refuted(rule);
+            let code = self.call(state.clone(), refuted.clone())?.answer.code;
+            if follows != (code == UNREFUTED) {
+                let state = show_state(&state);
+                return Err(format!("finished, and not decided:\n{}\n{state}follows: {follows}", refuted.show()));
+            }
+            codes.push(code);
+        }
+        Ok(codes)
     }
 
     /// The reply of the complete table: the marks that refute, and some of the other marks.
@@ -597,7 +744,7 @@ impl Script<'_> {
     }
 
     fn any_call(&mut self, state: &State) -> Call {
-        match self.random.below(17) {
+        match self.random.below(26) {
             0 => Call::Open { n: state.record.n, used: state.record.rows },
             1 | 2 => Call::Step,
             3 | 4 => Call::Yes,
@@ -605,7 +752,9 @@ impl Script<'_> {
             9..12 => Call::Follows(self.any_rule(state)),
             12..15 => Call::Refuted(self.any_rule(state)),
             15 => self.any_replay(state),
-            _ => self.any_opening_with_replay(state),
+            16 | 17 => self.any_opening_with_replay(state),
+            18..22 => Call::Test(self.any_row(state)),
+            _ => Call::File(self.any_filed(state)),
         }
     }
 
@@ -613,6 +762,23 @@ impl Script<'_> {
     fn any_row(&mut self, state: &State) -> Pair {
         let row = self.row_with_marks(state);
         if self.chance(2) { self.thinned(state, question(state), row) } else { row }
+    }
+
+    /// A row to file: one as for a no, one that contradicts nothing, or one that contradicts a rule in force.
+    fn any_filed(&mut self, state: &State) -> Pair {
+        let all = sets::all(state.record.n);
+        match self.random.below(4) {
+            0..2 => self.any_row(state),
+            2 => {
+                let yes = sets::closure(&in_force(state), self.random.subset(all));
+                (self.random.subset(yes), self.random.subset(all & !yes))
+            }
+            _ => {
+                let (premise, conclusion) = self.any_in_force(state);
+                let yes = premise | self.random.subset(all & !conclusion);
+                (yes, self.random.member(conclusion & !yes) | self.random.subset(all & !yes))
+            }
+        }
     }
 
     /// A row with marks that refute the question, or with a fault.
@@ -689,12 +855,15 @@ impl Script<'_> {
         let longest = if self.chance(20) { 300 } else { 40 };
         let count = self.random.below(longest);
         for _ in 0..count {
-            let call = match self.random.below(8) {
+            let call = match self.random.below(11) {
                 0 => Call::Follows(self.any_rule(&state)),
                 1 => Call::Refuted(self.any_rule(&state)),
                 2 => Call::No(self.any_row(&state)),
                 3 => Call::Yes,
                 4 => Call::Step,
+                5 => Call::Test(self.any_row(&state)),
+                6 => Call::File(self.any_filed(&state)),
+                7 => self.truthful_row().map_or(Call::Step, Call::File),
                 _ => match by_model(&state, &Call::Step).answer {
                     Answer { code: ASKED, first, second } => self.truthful(&state, (first, second)),
                     _ => Call::Step,
@@ -706,10 +875,12 @@ impl Script<'_> {
                 Call::No(pair) => (2, pair),
                 Call::Follows(pair) => (3, pair),
                 Call::Refuted(pair) => (4, pair),
+                Call::Test(pair) => (5, pair),
+                Call::File(pair) => (6, pair),
                 _ => (0, rest),
             };
             if self.chance(12) {
-                calls.extend([5 + self.random.word() % 3, pair.0, pair.1]);
+                calls.extend([7 + self.random.word() % 3, pair.0, pair.1]);
             } else if self.chance(40) {
                 calls.extend([kind | 1 << 32, pair.0, pair.1]);
             } else {
