@@ -22,13 +22,18 @@ def named_before(text, line):
     return re.findall(r"examples/tables/\w+", text[:text.index(line)])[-1]
 
 
-def holds(interview, table, asked):
+def parted(line):
+    """What is asked in a line, with the space behind it, and the reply; the line alone where nothing is asked."""
+    asked = re.match(r"(Does .*?\?|Finished\..*?:)(?: (.*))?$", line)
+    return (asked[1] + " ", asked[2] or "") if asked else (line, None)
+
+
+def holds(interview, table, said):
     """Whether an interview over a table with the replies shown says what is shown."""
-    replies = [line.split("? ")[1] for line in asked if "? " in line]
-    held = run(interview, [table], "\n".join(replies).encode()).decode()
-    # What is asked at the end has an empty reply, and no space shown before it.
-    wanted = "".join(line.split("? ")[0] + "? " if "? " in line else line + " " if line.endswith(":") else line for line in asked)
-    return held.replace("\n", "") == wanted
+    lines = [parted(line) for line in said]
+    replies = "".join(reply + "\n" for _, reply in lines if reply is not None)
+    held = run(interview, [table], replies.encode()).decode()
+    return held.replace("\n", "") == "".join(asked for asked, _ in lines)
 
 
 def main():
