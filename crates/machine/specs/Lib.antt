@@ -9,3 +9,4 @@ pub mod InTurn
 pub mod Facts
 pub mod Demand2
 pub mod Demand3
+pub mod NoBefore

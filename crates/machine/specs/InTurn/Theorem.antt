@@ -1,33 +1,17 @@
 -- The old reply is the two in turn: the checks of a no are those of the test, then those of the filing. Where the test is refused, its
 -- refusal is the no's (`test-refused`); where it passes, so do checks 1 to 7 (`test-checked`), and the no is the filing (`test-passed`). The
--- same by the test's answer (`no-refused`, `no-filed`). Check 9 stands in both, and the second time it decides nothing (`once-enough`).
+-- same by the test's answer (`no-refused`, `no-filed`).
 use mathlib.Core.Path.{_≡_, refl, sym, ap, _∙_, subst}
-use mathlib.Core.Bool.{Bool, true, false}
-use mathlib.Core.List.{List, [], _∷_, _++_, append-assoc}
+use mathlib.Core.Bool.{true, false}
+use mathlib.Core.List.{[], _++_, append-assoc}
 use mathlib.Core.Option.{Option, none, some}
 use Rattle.context.specs.Objects.{Object}
 use Rattle.session.specs.declared.Refusal.{Refusal}
-use Rattle.session.specs.Refusals.{refusal}
-use Rattle.machine.specs.Checks.{State, Check, firstFailing, sessionChecks, testChecks, filingChecks}
-use Rattle.machine.specs.Checks.Laws.{passed, none-failing, failing-append, failing-first, failing-behind, passed-append}
-use Rattle.machine.specs.Machine.{reject, test, file, taken, refuting, refused, Turn, turn, afterFiling, performed, checksOf, perform}
+use Rattle.machine.specs.Checks.{State, firstFailing, sessionChecks, testChecks, filingChecks}
+use Rattle.machine.specs.Checks.Laws.{passed, none-failing, failing-append, failing-first, passed-append}
+use Rattle.machine.specs.Machine.{reject, test, file, refuting, refused, Turn, turn, performed, checksOf, perform}
 use Rattle.machine.specs.Machine.Laws.{perform-cases, perform-accepted, perform-refused, Answers, refused-failing, answered-passing}
-use Rattle.machine.specs.InTurn.{isRefused, inTurn, noChecksOf01, noOf01, InTurn}
-
--- a check that stands a second time decides nothing there
-once-enough : (a b c : Check) (cs : List Check) → firstFailing (a ∷ b ∷ c ∷ b ∷ cs) ≡ firstFailing (a ∷ b ∷ c ∷ cs)
-unfolding firstFailing
-once-enough a b c cs = go (b .fails)
-  where
-    first : Check → Option Refusal → Option Refusal
-    first x later = elim (x .fails) [ true ↦ some (refusal (x .number) (x .place)) | false ↦ later ]
-
-    second : Bool → Option Refusal → Option Refusal
-    second f later = elim f [ true ↦ some (refusal (b .number) (b .place)) | false ↦ later ]
-
-    go : (f : Bool) → first a (second f (first c (second f (firstFailing cs)))) ≡ first a (second f (first c (firstFailing cs)))
-    go true = refl
-    go false = refl
+use Rattle.machine.specs.InTurn.{isRefused, inTurn, InTurn}
 
 module _ (s : State) (o : Object) where
   joined : checksOf s (reject o) ≡ checksOf s (test o) ++ filingChecks s o
@@ -74,11 +58,5 @@ module _ (s : State) (o : Object) where
       go none e = test-passed e ∙ sym (ap on (perform-accepted s (test o) e))
       go (some r) e = test-refused r e ∙ sym (ap on (perform-refused s (test o) r e))
 
-  as-in-01 : perform s (reject o) ≡ noOf01 s o
-  unfolding perform performed checksOf noOf01 noChecksOf01 testChecks filingChecks
-  as-in-01 =
-      ap (λ v. elim v as (λ y. Turn) [ none ↦ turn taken (afterFiling s o) | some r ↦ turn (refused r) s ])
-      (failing-behind (sessionChecks s []) _ _ (once-enough _ _ _ _))
-
 pub no-in-turn : InTurn
-no-in-turn = record { test-leaves = test-leaves; in-turn = in-turn; as-in-01 = as-in-01 }
+no-in-turn = record { test-leaves = test-leaves; in-turn = in-turn }
