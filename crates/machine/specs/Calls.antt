@@ -1,5 +1,5 @@
 -- How the session record and the lent words hold a state of the plain machine, and what a call of the code promises (01, "What a
--- call commits to"): it is that call of the plain machine, and no lent word changes but the two that an accepted reply writes.
+-- call commits to"): it is that call of the plain machine, and no lent word changes but the two that an accepted reply or filing writes.
 use mathlib.Core.Path.{_≡_}
 use mathlib.Core.Bool.{Bool, true, false}
 use mathlib.Core.List.{List}

@@ -103,7 +103,7 @@ module _ (s : State) (asked : List (Implication ℕ)) where
       let six = all-anywhere _ (s .rows) (λ o m. apart-contradicts (force s) o (f .consistent o m)) in
       none-failing (sessionChecks s asked) (one, (two, (three, (four, (five, (six, (ap not (eq-eqb _ _ (f .closed)), tt)))))))
 
--- ---- the checks of a reply
+-- ---- the checks of a reply, a test and a filing
 
 -- where a question stands check 8 passes
 pub standing-question : (s : State) → Stands s → not (questionStands s) ≡ false

@@ -1,4 +1,4 @@
--- How what a reply finds follows from its checks and from what was found before.
+-- How what a reply or a test finds follows from its checks and from what was found before.
 use mathlib.Core.Path.{_≡_, refl, sym, ap, _∙_}
 use mathlib.Core.Bool.{Bool, true, false, not}
 use mathlib.Core.List.{List, [], _∷_, _++_}
@@ -20,7 +20,7 @@ use Rattle.reply_checks.specs.Outcomes.{askingAfter, asking, unasked}
 use Rattle.reply_checks.specs.declared.Asking.{Asking}
 use Rattle.reply_checks.specs.declared.Asking.the-variants.{Question as AskingQuestion, Refused as AskingRefused}
 
--- what a reply finds, by what was found before; the checks behind check 8 are those of tail
+-- what it finds, by what was found before; the checks behind check 8 are those of tail
 abbrev pub askingFrom : List Check → Found → Asking
 askingFrom tail (Refused r) = AskingRefused r
 askingFrom tail Full = unasked
@@ -40,7 +40,7 @@ after-7 s tail = by (standing s)
     by tight = refl
     by open-question = refl
 
--- a reply whose checks are 1 to 7, check 8, and those of tail
+-- a call whose checks are 1 to 7, check 8, and those of tail
 asking-found : (s : State) (c : Call) (tail : List Check) → checksOf s c ≡ sessionChecks s [] ++ (check 8 (not (questionStands s)) 0 ∷ tail)
     → asking s c ≡ askingFrom tail (found s)
 unfolding asking found
@@ -65,7 +65,7 @@ pub test-found : (s : State) (o : Object) → asking s (test o) ≡ askingFrom (
 unfolding checksOf testChecks
 test-found s o = asking-found s (test o) (drop 1 (testChecks s o)) refl
 
--- the question of a reply is the machine's, and the checks of the reply pass; a refusal is that of its checks
+-- the question found is the machine's, and the checks pass; a refusal is that of its checks
 module _ (s : State) (c : Call) where
   pub asking-question : (q : Question) → AskingQuestion q ≡ asking s c → (q ≡ questionOf s) × (firstFailing (checksOf s c) ≡ none)
   unfolding asking

@@ -18,7 +18,9 @@ use Rattle.session_filing.proofs.file_row.Statement.{statement}
 use Rattle.session_filing.proofs.file_row.Tie as tie
 
 abbrev start : tie.After-check-session → tie.Start
-start c = c .before .before .before .before .before
+start c =
+    let d = c .before .before .before in
+    d .before .before
 
 abbrev state : tie.After-check-session → State
 state c = let a = start c .args in stateOf (a .session) (a .rows .now) (a .list .now) (a .background .now)

@@ -14,7 +14,9 @@ use Rattle.session_no.proofs.reject.Statement.{statement}
 use Rattle.session_no.proofs.reject.Tie as tie
 
 abbrev start : tie.After-test-row → tie.Start
-start c = c .before .before .before .before .before
+start c =
+    let d = c .before .before .before in
+    d .before .before
 
 abbrev state : tie.After-test-row → State
 state c = let a = start c .args in stateOf (a .session) (a .rows .now) (a .list .now) (a .background .now)

@@ -23,7 +23,7 @@ use Rattle.machine.specs.Calls.Laws.{performs, turns, rows-kept, list-kept}
 use Rattle.session_replies.specs.declared.Replied.{Replied}
 use Rattle.session_replies.specs.Answers.{replyAnswer, refusedWith}
 
--- an accepted reply finds a place, and n is at most 64
+-- an accepted yes finds a place, and n is at most 64
 module _ (s : State) where
   pub yes-small : firstFailing (checksOf s accept) ≡ none → (s .n ≤ 64) × (length (s .list) < s .lent .list / 2)
   unfolding checksOf yesChecks
