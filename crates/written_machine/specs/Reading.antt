@@ -1,19 +1,20 @@
 -- The plain machine read by written marks: of document 01's machine (`Checks`, `Machine`) each definition that reads what a row has and
--- lacks, with the marks that are written. So the machine was before request 5/13 of document 02; checks 1 to 7 never read anything else.
+-- lacks, with the marks that are written. So the machine was before request 5/13 of document 02, and so the two calls of request 6/13 would
+-- have been; checks 1 to 7 never read anything else.
 -- `Unchanged` says where it is the machine as it is now.
-use mathlib.Core.Bool.{Bool, true, false, not}
+use mathlib.Core.Bool.{Bool, true, false, not, _||_}
 use mathlib.Core.List.{List, [], _∷_, _++_}
 use mathlib.Core.Option.{none, some}
 use Prim.Native.Nat.{ℕ, _/_}
-use lib.ListN.{length}
+use lib.ListN.{length, take}
 use lib.Dec.{eqb, leb}
 use Rattle.theory.specs.Implications.{Implication}
 use Rattle.attribute_set.specs.Sets.{full, without}
 use Rattle.implication.specs.Closure.{implication, follows}
 use Rattle.context.specs.Places.{lowest, anywhere}
-use Rattle.context.specs.Objects.{Object, refutesWritten, firstWritten, contradicts}
+use Rattle.context.specs.Objects.{Object, refutesWritten, firstWritten, markedTwice, contradicts}
 use Rattle.written_marks.specs.Written.{reachWritten}
-use Rattle.machine.specs.Checks.{State, force, Standing, whole, tight, open-question, Check, check, firstFailing, badRow, sessionChecks, filingChecks}
+use Rattle.machine.specs.Checks.{State, force, Standing, whole, tight, open-question, Check, check, firstFailing, strangeObject, sessionChecks, filingChecks}
 use Rattle.machine.specs.Machine.{Call, step, accept, reject, follow, refute, test, file, finished, moved, asked, taken, followed, refuting, refused, Turn, turn, afterMove, agreeing, afterFiling, refutedAt}
 pub mod Unchanged
 
@@ -48,13 +49,19 @@ writtenYes s =
     ∷ check 12 (leb (s .lent .list / 2) (length (s .list))) 0
     ∷ []
 
--- checks 8 to 10 of a test; those of a filing never read implied marks
-unfoldable pub writtenTest : State → Object → List Check
-writtenTest s o =
+-- checks 8 to 12 of a no
+unfoldable pub writtenNo : State → Object → List Check
+writtenNo s o =
     check 8 (not (writtenStands s)) 0
-    ∷ check 9 (badRow (s .n) o) 0
+    ∷ check 9 (strangeObject (s .n) o || markedTwice o) 0
     ∷ check 10 (not (refutesWritten o (writtenQuestion s))) 0
+    ∷ check 11 (contradicts (force s) o) 0
+    ∷ check 12 (leb (s .lent .rows / 2) (length (s .rows))) 0
     ∷ []
+
+-- of a test (02, request 6/13) the first three of them; the checks of a filing read nothing else
+abbrev pub writtenTest : State → Object → List Check
+writtenTest s o = take 3 (writtenNo s o)
 
 -- what an accepted step does
 unfoldable pub writtenStep : State → Turn
@@ -78,7 +85,7 @@ writtenPerformed s (file o) = turn taken (afterFiling s o)
 unfoldable pub writtenChecks : State → Call → List Check
 writtenChecks s step = sessionChecks s []
 writtenChecks s accept = sessionChecks s [] ++ writtenYes s
-writtenChecks s (reject o) = sessionChecks s [] ++ (writtenTest s o ++ filingChecks s o)
+writtenChecks s (reject o) = sessionChecks s [] ++ writtenNo s o
 writtenChecks s (follow r) = sessionChecks s (r ∷ [])
 writtenChecks s (refute r) = sessionChecks s (r ∷ [])
 writtenChecks s (test o) = sessionChecks s [] ++ writtenTest s o

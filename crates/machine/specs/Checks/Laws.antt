@@ -94,6 +94,21 @@ failing-behind [] ys zs e = e
 failing-behind (c ∷ xs) ys zs e =
     ap (λ v. elim (c .fails) as (λ b. Option Refusal) [ true ↦ some (refusal (c .number) (c .place)) | false ↦ v ]) (failing-behind xs ys zs e)
 
+-- a check that stands a second time decides nothing there
+pub once-enough : (a b c : Check) (cs : List Check) → firstFailing (a ∷ b ∷ c ∷ b ∷ cs) ≡ firstFailing (a ∷ b ∷ c ∷ cs)
+unfolding firstFailing
+once-enough a b c cs = go (b .fails)
+  where
+    first : Check → Option Refusal → Option Refusal
+    first x later = elim (x .fails) [ true ↦ some (refusal (x .number) (x .place)) | false ↦ later ]
+
+    second : Bool → Option Refusal → Option Refusal
+    second f later = elim f [ true ↦ some (refusal (b .number) (b .place)) | false ↦ later ]
+
+    go : (f : Bool) → first a (second f (first c (second f (firstFailing cs)))) ≡ first a (second f (first c (firstFailing cs)))
+    go true = refl
+    go false = refl
+
 -- a no that passes its checks passes those of the test and those of the filing
 pub no-both : (s : State) (o : Object) → firstFailing (sessionChecks s [] ++ noChecks s o) ≡ none
     → (firstFailing (testChecks s o) ≡ none) × (firstFailing (filingChecks s o) ≡ none)

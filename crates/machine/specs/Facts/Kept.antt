@@ -116,7 +116,7 @@ LateRefusal s (reject o) r = 8 ≤ r .number
 LateRefusal s (follow q) r = (r ≡ refusal 4 0) × (Over words (full (s .n)) q → ⊥)
 LateRefusal s (refute q) r = (r ≡ refusal 4 0) × (Over words (full (s .n)) q → ⊥)
 LateRefusal s (test o) r = (8 ≤ r .number) × (r .number ≤ 10)
-LateRefusal s (file o) r = (9 ≤ r .number) × (r .number ≡ 10 → ⊥)
+LateRefusal s (file o) r = (9 ≤ r .number) × (r .number ≤ 12) × (r .number ≡ 10 → ⊥)
 
 -- a refusal has the number of one of the checks
 pub failing-number : (P : ℕ → Type 0) (cs : List Check) → All (λ c. P (c .number)) cs → (r : Refusal) → firstFailing cs ≡ some r → P (r .number)
@@ -131,23 +131,25 @@ failing-number P (c ∷ cs) all r e = go (c .fails) (failing-number P cs (λ x m
         subst (λ (x : Refusal). P (x .number)) same (all c (List·Memᴰ·head refl))
     go false ih h = ih h
 
+-- the numbers of a test are 8 to 10, those of a filing 9, 11 and 12
+pub test-numbers : (s : State) (o : Object) → All (λ x. (8 ≤ x .number) × (x .number ≤ 10)) (testChecks s o)
+unfolding testChecks
+test-numbers s o = all-cons (omega arith, omega arith) (all-cons (omega arith, omega arith) (all-cons (omega arith, omega arith) (all-nil _)))
+
+pub filing-numbers : (s : State) (o : Object) → All (λ x. (9 ≤ x .number) × (x .number ≤ 12) × (x .number ≡ 10 → ⊥)) (filingChecks s o)
+unfolding filingChecks
+filing-numbers s o =
+    all-cons (omega arith, omega arith, λ e. omega arith) (all-cons (omega arith, omega arith, λ e. omega arith)
+    (all-cons (omega arith, omega arith, λ e. omega arith) (all-nil _)))
+
 module _ (s : State) (f : Fine s) where
   yes-late : (r : Refusal) → firstFailing (yesChecks s) ≡ some r → 8 ≤ r .number
   unfolding yesChecks
   yes-late = failing-number (λ k. 8 ≤ k) (yesChecks s) (all-cons (omega arith) (all-cons (omega arith) (all-cons (omega arith) (all-nil _))))
 
-  test-numbers : (o : Object) → All (λ x. (8 ≤ x .number) × (x .number ≤ 10)) (testChecks s o)
-  unfolding testChecks
-  test-numbers o = all-cons (omega arith, omega arith) (all-cons (omega arith, omega arith) (all-cons (omega arith, omega arith) (all-nil _)))
-
-  filing-numbers : (o : Object) → All (λ x. (9 ≤ x .number) × (x .number ≡ 10 → ⊥)) (filingChecks s o)
-  unfolding filingChecks
-  filing-numbers o =
-      all-cons (omega arith, λ e. omega arith) (all-cons (omega arith, λ e. omega arith) (all-cons (omega arith, λ e. omega arith) (all-nil _)))
-
   no-late : (o : Object) (r : Refusal) → firstFailing (noChecks s o) ≡ some r → 8 ≤ r .number
   no-late o = failing-number (λ k. 8 ≤ k) (noChecks s o)
-      (all-append (testChecks s o) (filingChecks s o) (λ x m. test-numbers o x m .0) (λ x m. let h = filing-numbers o x m .0 in omega arith))
+      (all-append (testChecks s o) (filingChecks s o) (λ x m. test-numbers s o x m .0) (λ x m. let h = filing-numbers s o x m .0 in omega arith))
 
   fine-passed : firstFailing (sessionChecks s []) ≡ none
   fine-passed = fine-checks s [] f (all-nil _)
@@ -182,10 +184,10 @@ module _ (s : State) (f : Fine s) where
   late-by-call (follow q) r e = asked-late q r e
   late-by-call (refute q) r e = asked-late q r e
   late-by-call (test o) r e =
-      failing-number (λ k. (8 ≤ k) × (k ≤ 10)) (testChecks s o) (test-numbers o) r
+      failing-number (λ k. (8 ≤ k) × (k ≤ 10)) (testChecks s o) (test-numbers s o) r
       (sym (failing-append (sessionChecks s []) (testChecks s o) (passed _ fine-passed)) ∙ e)
   late-by-call (file o) r e =
-      failing-number (λ k. (9 ≤ k) × (k ≡ 10 → ⊥)) (filingChecks s o) (filing-numbers o) r
+      failing-number (λ k. (9 ≤ k) × (k ≤ 12) × (k ≡ 10 → ⊥)) (filingChecks s o) (filing-numbers s o) r
       (sym (failing-append (sessionChecks s []) (filingChecks s o) (passed _ fine-passed)) ∙ e)
 
   pub late-refusals : (c : Call) (r : Refusal) → perform s c .answer ≡ refused r → LateRefusal s c r

@@ -20,7 +20,7 @@ use Rattle.session.specs.Refusals.{refusal}
 use Rattle.machine.specs.Checks.{Lent, State, Check, firstFailing, sessionChecks, yesChecks, testChecks, filingChecks, force, withQuestion}
 use Rattle.machine.specs.Machine.{Call, step, accept, reject, follow, refute, test, file, refused, checksOf, perform, Opening, opened, rejected, opening, openingState}
 use Rattle.machine.specs.Machine.Laws.{refused-failing}
-use Rattle.machine.specs.Facts.Kept.{failing-number}
+use Rattle.machine.specs.Facts.Kept.{failing-number, test-numbers, filing-numbers}
 
 -- the lowest place of a list at which a test holds
 pub record Lowest {A : Type 0} (f : A → Bool) (l : List A) (place : ℕ) : Type 0 where
@@ -138,14 +138,6 @@ yes-numbers : (s : State) → All (λ x. Between 1 12 (x .number)) (yesChecks s)
 unfolding yesChecks
 yes-numbers s = all-cons (omega arith) (all-cons (omega arith) (all-cons (omega arith) (all-nil _)))
 
-test-numbers : (s : State) (o : Object) → All (λ x. Between 1 12 (x .number)) (testChecks s o)
-unfolding testChecks
-test-numbers s o = all-cons (omega arith) (all-cons (omega arith) (all-cons (omega arith) (all-nil _)))
-
-filing-numbers : (s : State) (o : Object) → All (λ x. Between 1 12 (x .number)) (filingChecks s o)
-unfolding filingChecks
-filing-numbers s o = all-cons (omega arith) (all-cons (omega arith) (all-cons (omega arith) (all-nil _)))
-
 all-numbers : (s : State) (c : Call) → All (λ x. Between 1 12 (x .number)) (checksOf s c)
 unfolding checksOf
 all-numbers s c = go c
@@ -153,15 +145,21 @@ all-numbers s c = go c
     early : (asked : List (Implication ℕ)) → All (λ x. Between 1 12 (x .number)) (sessionChecks s asked)
     early asked x m = let h = session-numbers s asked x m in omega arith
 
+    tested : (o : Object) → All (λ x. Between 1 12 (x .number)) (testChecks s o)
+    tested o x m = let h = test-numbers s o x m in omega arith
+
+    filed : (o : Object) → All (λ x. Between 1 12 (x .number)) (filingChecks s o)
+    filed o x m = let h = filing-numbers s o x m in (omega (arith, h .0), h .1)
+
     go : (d : Call) → All (λ x. Between 1 12 (x .number)) (checksOf s d)
     go step = early []
     go accept = all-append (sessionChecks s []) (yesChecks s) (early []) (yes-numbers s)
     go (reject o) =
-        all-append (sessionChecks s []) _ (early []) (all-append (testChecks s o) (filingChecks s o) (test-numbers s o) (filing-numbers s o))
+        all-append (sessionChecks s []) _ (early []) (all-append (testChecks s o) (filingChecks s o) (tested o) (filed o))
     go (follow q) = early (q ∷ [])
     go (refute q) = early (q ∷ [])
-    go (test o) = all-append (sessionChecks s []) (testChecks s o) (early []) (test-numbers s o)
-    go (file o) = all-append (sessionChecks s []) (filingChecks s o) (early []) (filing-numbers s o)
+    go (test o) = all-append (sessionChecks s []) (testChecks s o) (early []) (tested o)
+    go (file o) = all-append (sessionChecks s []) (filingChecks s o) (early []) (filed o)
 
 pub small-number : (s : State) (c : Call) (r : Refusal) → perform s c .answer ≡ refused r → Between 1 12 (r .number)
 small-number s c r h = failing-number (Between 1 12) (checksOf s c) (all-numbers s c) r (refused-failing s c r h)

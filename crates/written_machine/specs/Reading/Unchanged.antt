@@ -1,6 +1,6 @@
 -- Where all rows are complete the machine is what it was: for every state of which each row in use is complete, and every call that
--- offers to the question, if any, a complete row that does not contradict the rules in force, the call's answer and the state after it are those by
--- written marks. Contradicting rows, rules outside M and n above 64 are refused by 1 to 7 in both.
+-- offers to the question, if any, a complete row that does not contradict the rules in force, the call's answer and the state after it are
+-- those by written marks. Contradicting rows, rules outside M and n above 64 are refused by 1 to 7 in both.
 use mathlib.Core.Path.{_≡_}
 use mathlib.Core.Bool.{false}
 use Rattle.theory.specs.Lists.{All}

@@ -18,9 +18,9 @@ use Rattle.context.specs.Tables.{Complete}
 use Rattle.session.specs.declared.Refusal.{Refusal}
 use Rattle.written_marks.specs.Written.Laws.{refutes-written, reach-written}
 use Rattle.machine.specs.Checks.{State, force, reachOf, Standing, whole, tight, open-question, standing, questionStands, question, Check, check, firstFailing, badRow, sessionChecks, yesChecks, testChecks, filingChecks}
-use Rattle.machine.specs.Checks.Laws.{passed, failing-first, Valid, valid, checked-small}
-use Rattle.machine.specs.Machine.{Call, step, accept, reject, follow, refute, test, file, finished, moved, asked, taken, refused, Turn, turn, afterMove, agreeing, refutedAt, performStep, performed, checksOf, perform}
-use Rattle.written_machine.specs.Reading.{writtenReach, writtenStanding, writtenStands, writtenQuestion, writtenYes, writtenTest, writtenStep, writtenPerformed, writtenChecks, writtenPerform}
+use Rattle.machine.specs.Checks.Laws.{passed, failing-first, failing-behind, once-enough, Valid, valid, checked-small}
+use Rattle.machine.specs.Machine.{Call, step, accept, reject, follow, refute, test, file, finished, moved, asked, taken, refused, Turn, turn, afterMove, agreeing, afterFiling, refutedAt, performStep, performed, checksOf, perform}
+use Rattle.written_machine.specs.Reading.{writtenReach, writtenStanding, writtenStands, writtenQuestion, writtenYes, writtenNo, writtenTest, writtenStep, writtenPerformed, writtenChecks, writtenPerform}
 use Rattle.written_machine.specs.Reading.Unchanged.{OffersComplete, Unchanged}
 
 module _ (s : State) (complete : All (Complete (s .n)) (s .rows)) where
@@ -62,7 +62,7 @@ module _ (s : State) (complete : All (Complete (s .n)) (s .rows)) where
     same-refutes o whole′ agrees r = refutes-written (s .n) most (force s) (v .over) o (record { complete = whole′; agrees = agrees }) r
 
     same-test : (o : Object) → Complete (s .n) o → contradicts (force s) o ≡ false → testChecks s o ≡ writtenTest s o
-    unfolding testChecks writtenTest
+    unfolding testChecks writtenNo
     same-test o whole′ agrees = ap₂ (λ b d.
         check 8 (not b) 0
         ∷ check 9 (badRow (s .n) o) 0
@@ -109,11 +109,19 @@ module _ (s : State) (complete : All (Complete (s .n)) (s .rows)) where
       ap (λ l. settled l t) (sym (append-nil (sessionChecks s asked′))) ∙ same-settled asked′ [] [] t u (λ e. (refl, same e))
       ∙ ap (λ l. settled l u) (append-nil (sessionChecks s asked′))
 
+  -- the second check 9 of a no decides nothing
+  nine-once : (o : Object) → firstFailing (writtenTest s o ++ filingChecks s o) ≡ firstFailing (writtenNo s o)
+  unfolding writtenNo filingChecks
+  nine-once o = once-enough _ _ _ _
+
   same-call : (c : Call) → OffersComplete s c → perform s c ≡ writtenPerform s c
   unfolding perform writtenPerform settled checksOf writtenChecks performed writtenPerformed
   same-call step k = same-alone [] _ _ (λ e. same-step [] e)
   same-call accept k = same-settled [] _ _ _ _ (λ e. (same-yes [] e, ap (λ q. turn taken (agreeing s q)) (same-question [] e)))
-  same-call (reject o) k = same-settled [] _ _ _ _ (λ e. (ap (λ l. l ++ filingChecks s o) (same-test [] e o (k .0) (k .1)), refl))
+  same-call (reject o) k =
+      same-settled [] _ (writtenTest s o ++ filingChecks s o) _ _ (λ e. (ap (λ l. l ++ filingChecks s o) (same-test [] e o (k .0) (k .1)), refl))
+      ∙ ap (λ v. elim v as (λ y. Turn) [ none ↦ turn taken (afterFiling s o) | some r ↦ turn (refused r) s ])
+      (failing-behind (sessionChecks s []) _ _ (nine-once o))
   same-call (follow r) k = refl
   same-call (refute r) k = same-alone (r ∷ []) _ _ (λ e. ap (λ p. turn (refutedAt p (length (s .rows))) s) (same-first (r ∷ []) e r))
   same-call (test o) k = same-settled [] _ _ _ _ (λ e. (same-test [] e o (k .0) (k .1), refl))
