@@ -1,24 +1,19 @@
 -- The verdicts of the checks of an offered row, in document 01's terms ("Refusals in checking order"): 9 and 10 of a test, behind its check 8, and
--- 9 and 11 of a filing, before its check 12 (02, request 6/13). They speak of a number of attributes that passes check 1.
+-- 9 and 11 of a filing, before its check 12 (02, request 6/13).
 use mathlib.Core.Path.{_≡_}
-use mathlib.Core.Bool.{Bool, not}
+use mathlib.Core.Bool.{not}
 use mathlib.Core.List.{List, [], _∷_}
-use Prim.Native.Nat.{ℕ, _≤_}
+use Prim.Native.Nat.{ℕ}
 use Rattle.theory.specs.Implications.{Implication}
 use Rattle.context.specs.Objects.{Object, refutes, contradicts}
-use Rattle.session.specs.Limits.{mostAttributes}
 use Rattle.machine.specs.Checks.{check, firstFailing, badRow}
 use Rattle.size_checks.specs.declared.Verdict.{Verdict}
 use Rattle.size_checks.specs.Verdicts.{verdictOf}
 
--- whether check 9 fails
-abbrev pub BadRow : ℕ → Object → Bool → Type 0
-BadRow n o b = n ≤ mostAttributes → b ≡ badRow n o
-
 -- of a test, where the rules rs are in force and q is the question
 abbrev pub RowTested : ℕ → List (Implication ℕ) → Implication ℕ → Object → Verdict → Type 0
-RowTested n rs q o v = n ≤ mostAttributes → verdictOf v ≡ firstFailing (check 9 (badRow n o) 0 ∷ check 10 (not (refutes rs o q)) 0 ∷ [])
+RowTested n rs q o v = verdictOf v ≡ firstFailing (check 9 (badRow n o) 0 ∷ check 10 (not (refutes rs o q)) 0 ∷ [])
 
 -- of a filing
 abbrev pub RowFits : ℕ → List (Implication ℕ) → Object → Verdict → Type 0
-RowFits n rs o v = n ≤ mostAttributes → verdictOf v ≡ firstFailing (check 9 (badRow n o) 0 ∷ check 11 (contradicts rs o) 0 ∷ [])
+RowFits n rs o v = verdictOf v ≡ firstFailing (check 9 (badRow n o) 0 ∷ check 11 (contradicts rs o) 0 ∷ [])

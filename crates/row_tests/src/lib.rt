@@ -1,12 +1,14 @@
 // The checks of an offered row, in document 01's order: 9 and 10 of a test to a question that stands, 9 and 11 of a filing.
+ghost use mathlib.Core.Path.{_≡_};
 ghost use Rattle.implication.specs.Closure.{implication};
 ghost use Rattle.context.specs.Objects.{object};
 ghost use Rattle.context.specs.Parts.{lentForce};
-ghost use Rattle.row_tests.specs.Tests.{BadRow, RowTested, RowFits};
+ghost use Rattle.machine.specs.Checks.{badRow};
+ghost use Rattle.row_tests.specs.Tests.{RowTested, RowFits};
 
 // The tests of check 9: a row with an attribute outside M, or with one marked both ways.
 fn bad_row(n: usize, yes: u64, no: u64) -> bool
-    ensures { λ r. ⌜ BadRow n (object yes no) r ⌝ }
+    ensures { λ r. ⌜ r ≡ badRow n (object yes no) ⌝ }
 {
     if outside_check::strange_pair(yes, no, attribute_set::full_set(n)) {
         return true;

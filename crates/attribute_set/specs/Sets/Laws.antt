@@ -254,6 +254,15 @@ pub sub-full-lt : (x n : ℕ) → Sub x (full n) → x < 2 ^ n
 unfolding full
 sub-full-lt x n s = subst (λ (k : ℕ). k < 2 ^ n) (sym (and-mask x n) ∙ sub→and s) (mod-lt x (pow-pos n))
 
+-- what a set below 2 ^ w has outside it is decided by the first w attributes
+pub inside-first : (x n w : ℕ) → x < 2 ^ w → inside x (full (min n w)) ≡ inside x (full n)
+inside-first x n w h =
+    ⊎-elim (λ l. ap (λ (k : ℕ). inside x (full k)) (omega arith))
+    (λ l.
+    let few : min n w ≡ w = omega arith in
+    rw few (sub-inside (lt-sub-full x w h) ∙ sym (sub-inside (lt-sub-full x n (lt-of-lt-of-le h (pow-mono l))))))
+    (lt-or-le n w)
+
 -- its members are the attributes below n
 pub full-member : (n i : ℕ) → In i (full n) → i < n
 full-member n i h = member-lt (full n) i n (full-lt n) h

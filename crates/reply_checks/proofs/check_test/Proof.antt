@@ -8,7 +8,6 @@ use borrow.Author.Needs.{needs}
 use Rattle.implication.specs.Closure.{implication}
 use Rattle.context.specs.Objects.{Object, object, refutes}
 use Rattle.machine.specs.Checks.{State, force, Check, check, firstFailing, badRow, sessionChecks, testChecks}
-use Rattle.machine.specs.Checks.Laws.{checked-small}
 use Rattle.machine.specs.Machine.{Call, test}
 use Rattle.machine.specs.Calls.{stateOf}
 use Rattle.size_checks.specs.Verdicts.{verdictOf}
@@ -61,7 +60,7 @@ behind-decided c =
     let q = question-found (c .before) in
     let d = opened (c .before) in
     let e : verdictOf (c .check-tested-row .result) ≡ firstFailing (tests (state d) (offered d) (c .before .before .standing .given .0 .0)) =
-    c .check-tested-row .ensures (checked-small (state d) [] (q .1) .0) in
+    c .check-tested-row .ensures in
     e ∙ ap (λ (x : Question). firstFailing (tests (state d) (offered d) x)) (q .0)
 
 returns : tie.Need-returns

@@ -2,7 +2,6 @@
 use mathlib.Core.Path.{_≡_, sym, ap, _∙_}
 use mathlib.Core.Bool.{not}
 use mathlib.Core.List.{[], _∷_}
-use Prim.Native.Nat.{_≤_}
 use native.Mathlib.Omega.{arith}
 use lib.Bits.{bitAnd}
 use borrow.Author.Needs.{needs}
@@ -11,7 +10,6 @@ use Rattle.attribute_set.specs.Sets.{meets}
 use Rattle.attribute_set.specs.Sets.Laws.{and-apart, apart-meets}
 use Rattle.implication.specs.Closure.{inForce}
 use Rattle.context.specs.Objects.{Object, object, contradicts}
-use Rattle.session.specs.Limits.{mostAttributes}
 use Rattle.machine.specs.Checks.{Check, check, badRow, firstFailing}
 use Rattle.machine.specs.Checks.Laws.{failing-nothing, failing-here, failing-later}
 use Rattle.row_tests.proofs.check_filed_row.Statement.{statement}
@@ -30,18 +28,17 @@ abbrev eleven : tie.Start → Check
 eleven c = let a = c .args in check 11 (contradicts (inForce (a .background .now) (a .list .now) (a .rules)) (offered c)) 0
 
 returns : tie.Need-returns
-returns c small =
+returns c =
     let d = c .before in
     let s = begun (d .before) in
-    c .refused .ensures ∙ sym (failing-here (nine s) (eleven s ∷ []) (sym (d .before .bad-row .ensures small) ∙ d .if1 .taken))
+    c .refused .ensures ∙ sym (failing-here (nine s) (eleven s ∷ []) (sym (d .before .bad-row .ensures) ∙ d .if1 .taken))
 
 -- check 9 passes, and check 11 decides
 abbrev start : tie.After-closure-of → tie.Start
 start c = begun (c .before .before)
 
-after-nine : (c : tie.After-closure-of) → start c .args .n ≤ mostAttributes
-    → firstFailing (nine (start c) ∷ eleven (start c) ∷ []) ≡ firstFailing (eleven (start c) ∷ [])
-after-nine c small = failing-later _ _ (sym (c .before .before .bad-row .ensures small) ∙ c .before .if1 .left)
+after-nine : (c : tie.After-closure-of) → firstFailing (nine (start c) ∷ eleven (start c) ∷ []) ≡ firstFailing (eleven (start c) ∷ [])
+after-nine c = failing-later _ _ (sym (c .before .before .bad-row .ensures) ∙ c .before .if1 .left)
 
 -- the test of check 11
 meeting : (c : tie.After-closure-of) → eleven (start c) .fails ≡ meets (c .closure-of .result) (start c .args .no)
@@ -50,16 +47,16 @@ meeting c = ap (λ x. meets x (start c .args .no)) (sym (c .closure-of .ensures)
 
 returns-2 : tie.Need-returns-2
 unfolding meets
-returns-2 c small =
+returns-2 c =
     let d = c .before .before in
     let apart = ap not (ne-eqb (bitAnd (d .closure-of .result) (start d .args .no)) 0 (λ e. omega arith)) in
-    c .refused2 .ensures ∙ sym (after-nine d small ∙ failing-here _ _ (meeting d ∙ apart))
+    c .refused2 .ensures ∙ sym (after-nine d ∙ failing-here _ _ (meeting d ∙ apart))
 
 returns-3 : tie.Need-returns-3
-returns-3 c small =
+returns-3 c =
     let d = c .before in
     let apart = apart-meets (and-apart (d .closure-of .result) (start d .args .no) (omega arith)) in
-    sym (after-nine d small ∙ failing-later _ _ (meeting d ∙ apart) ∙ failing-nothing)
+    sym (after-nine d ∙ failing-later _ _ (meeting d ∙ apart) ∙ failing-nothing)
 
 pub check-filed-row-spec : {M : Type 1} → statement M
 check-filed-row-spec =

@@ -14,6 +14,7 @@ use Rattle.machine.specs.Calls.{stateOf}
 use Rattle.size_checks.specs.declared.Verdict.{Verdict}
 use Rattle.size_checks.specs.Verdicts.{verdictOf}
 use Rattle.session_replies.specs.Answers.Laws.{refused-turns}
+use Rattle.session_filing.specs.Checked.Laws.{checked-turns}
 use Rattle.session_filing.proofs.file_row.Statement.{statement}
 use Rattle.session_filing.proofs.file_row.Tie as tie
 
@@ -50,7 +51,7 @@ returns-2 c =
     let filed = c .before .before in
     let known = filed .before .before in
     let d = known .before .before in
-    filed .file-checked .ensures (said d _ (known .enum-told .given .1))
+    checked-turns (said d _ (known .enum-told .given .1)) (filed .file-checked .ensures)
 
 pub file-row-spec : {M : Type 1} → statement M
 file-row-spec =

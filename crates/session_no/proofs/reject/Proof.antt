@@ -10,6 +10,7 @@ use Rattle.machine.specs.Calls.Laws.{as-call}
 use Rattle.session_test.specs.declared.Testing.{Testing}
 use Rattle.session_test.specs.Answers.{testingAnswer}
 use Rattle.session_replies.specs.Answers.Laws.{refused-turns}
+use Rattle.session_filing.specs.Checked.Laws.{checked-turns}
 use Rattle.session_no.proofs.reject.Statement.{statement}
 use Rattle.session_no.proofs.reject.Tie as tie
 
@@ -39,7 +40,7 @@ returns-2 c =
     let known = filed .before .before in
     let d = known .before .before in
     let same = no-filed (state d) (offered d) (answered d _ (known .enum-told .given .1)) in
-    as-call (same .1) (λ x. refl) (λ x. refl) (filed .file-checked .ensures (same .0))
+    as-call (same .1) (λ x. refl) (λ x. refl) (checked-turns (same .0) (filed .file-checked .ensures))
 
 pub reject-spec : {M : Type 1} → statement M
 reject-spec =
