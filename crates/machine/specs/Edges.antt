@@ -92,6 +92,8 @@ pub record Edges : Type 0 where
   pub refuted-lacked : perform (over (lent 6 2 2) (object 1 0 ∷ object 1 4 ∷ [])) (refute (implication 1 2)) .answer ≡ refuted 1
   -- with {1} → {0} in the list a row with 1 has 0, and refutes {0} → {2} where it lacks 2
   pub refuted-had : perform (agreeing (wider (lent 6 2 2) (object 2 4 ∷ [])) (implication 2 1)) (refute (implication 1 4)) .answer ≡ refuted 0
+  -- so at {0} a step asks of 1 and 3, and not of 2
+  pub asked-had : perform (moveTo (agreeing (wider (lent 6 2 2) (object 2 4 ∷ [])) (implication 2 1)) 1) step .answer ≡ asked (implication 1 10)
   -- under {} → {0} a row offered without yes marks has the premise {0}; one that lacks 0 contradicts
   pub eleven-of-nothing : perform (under (implication 0 1) []) (reject (object 0 1)) .answer ≡ refused (refusal 11 0)
   -- a yes to {0} → {1, 2} contradicts the second row, which has 0 and lacks 3, and the third: 11 names the lowest

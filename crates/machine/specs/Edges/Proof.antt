@@ -52,6 +52,7 @@ edges = record {
   eleven-not-ten = refl;
   refuted-lacked = refl;
   refuted-had = refl;
+  asked-had = refl;
   eleven-of-nothing = refl;
   eleven = refl;
   eleven-before-twelve = refl;
