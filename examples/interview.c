@@ -15,17 +15,19 @@
 #include "zundrafl.h"
 
 enum { ROW_WORDS = 2 * ZUNDRAFL_MOST_ROWS, RULE_WORDS = 2 * ZUNDRAFL_MOST_RULES, MOST_NAME = 80, LINE = 8192 };
+enum { CALL_WORDS = 4, ANSWER_WORDS = 3 }; /* of a log that is made */
 
 static const char USAGE[] =
     "usage: interview [--background FILE] [--log FILE] [--save FILE] [--nearly PERCENT] TABLE\n"
     "  TABLE       a table in Burmeister's layout; X yes, . no, ? unknown\n"
     "  background  rules that hold from the start, one a line: has fur, flies -> breathes air\n"
     "  log         the interview so far is taken up from it, and written to it as it goes\n"
-    "  save        the table with the rows that you gave is written to it at the end\n"
+    "  save        the table with the rows and marks that you gave is written to it at the end\n"
     "  nearly      shown first: what more than this percentage of the rows with a property have too, and the rows that stand in the way\n"
     "Answer a question with yes (y), or with no (n) and a row of marks that refutes it; behind the marks the row may get a name.\n"
     "A mark that the rules imply may stay unknown. At a question, and when the interview is finished, row (r) and marks file a row that need\n"
-    "not refute anything; at a question test (t) and marks say whether a row refutes it, and file nothing.\n";
+    "not refute anything, and mark (m) fills in a mark that was unknown: mark cat flies no. There a row is called by its name, or as row 3.\n"
+    "At a question test (t) and marks say whether a row refutes it, and file nothing.\n";
 
 static uint8_t file[ZUNDRAFL_MOST_BYTES + 1];
 static size_t bytes;
@@ -60,12 +62,16 @@ static void show_row(FILE *to, size_t row) {
     else fprintf(to, "row %zu (the %zu. of your rows)", row + 1, row + 1 - layout.objects);
 }
 
-/* The name of a row as the table that is saved has it. */
-static const char *saved_name(size_t row) {
+/* A row by its number, the first being row 1. */
+static const char *numbered(size_t row) {
     static char number[MOST_NAME + 1];
-    if (row < layout.objects || object_names[row][0]) return object_names[row];
     sprintf(number, "row %zu", row + 1);
     return number;
+}
+
+/* The name of a row as the table that is saved has it. */
+static const char *saved_name(size_t row) {
+    return row < layout.objects || object_names[row][0] ? object_names[row] : numbered(row);
 }
 
 static void show_marks(FILE *to, uint64_t yes, uint64_t no) {
@@ -140,6 +146,14 @@ static char *next_word(char **text) {
     return word;
 }
 
+/* Cuts the last word off a text with no white space around it; the text itself where it has no other. */
+static char *last_word(char *text) {
+    char *word = text + strlen(text);
+    while (word > text && !isspace((unsigned char)word[-1])) word--;
+    if (word > text) word[-1] = 0, trimmed(text);
+    return word;
+}
+
 /* A row as the table file writes it. */
 static int read_row(const char *marks, uint64_t *yes, uint64_t *no) {
     *yes = *no = 0;
@@ -173,6 +187,39 @@ static int read_set(char *text, uint64_t *set) {
     return 1;
 }
 
+/* Whether a text ends in a name, with white space before it or nothing. What comes before that has `length` bytes. */
+static int ends_in(const char *text, const char *name, size_t *length) {
+    size_t before = strlen(text), size = strlen(name);
+    if (before < size || strcmp(text + before - size, name) != 0) return 0;
+    *length = before -= size;
+    while (*length && isspace((unsigned char)text[*length - 1])) --*length;
+    return !before || *length < before;
+}
+
+/* Whether the first bytes of a text, one or more, are a name. */
+static int begins_as(const char *text, size_t length, const char *name) {
+    return length && strlen(name) == length && memcmp(text, name, length) == 0;
+}
+
+/* A row and a property, with white space between: the row by its name or by its number. Otherwise 0, and says what is wrong. */
+static int read_place(const char *text, size_t *row, uint64_t *property) {
+    size_t found = 0, named = 0, length;
+    for (size_t i = 0; i < layout.attributes; i++) {
+        if (!ends_in(text, attribute_names[i], &length)) continue;
+        named = 1;
+        for (size_t j = 0; j < session.rows; j++) {
+            if (!begins_as(text, length, object_names[j]) && !begins_as(text, length, numbered(j))) continue;
+            *row = j, *property = (uint64_t)1 << i;
+            found++;
+        }
+    }
+    if (found == 1) return 1;
+    if (found) fputs("More than one mark is called so: write row and the row's number.\n", stderr);
+    else if (named) fputs("No row is called so: write its name, or row and its number.\n", stderr);
+    else fputs("No property is called so.\n", stderr);
+    return 0;
+}
+
 /* Whether a word is a command or its first letter. */
 static int is(const char *word, const char *command) {
     return strcmp(word, command) == 0 || (word[0] == command[0] && !word[1]);
@@ -181,6 +228,11 @@ static int is(const char *word, const char *command) {
 /* Whether a call of the log has a row, with marks and name. */
 static int has_row(const char *call) {
     return strcmp(call, "no") == 0 || strcmp(call, "row") == 0;
+}
+
+/* Whether it has marks for a row, and the row's number. */
+static int has_number(const char *call) {
+    return strcmp(call, "mark") == 0;
 }
 
 /* A number in digits; one too long for a word is the largest word. */
@@ -235,10 +287,11 @@ static void read_background(const char *path) {
 
 /* ---- the session */
 
+/* A call for the log; behind marks stands a name or a number. */
 static void write_call(const char *call, uint64_t yes, uint64_t no, const char *name) {
     if (!record) return;
     fputs(call, record);
-    if (has_row(call)) fputc(' ', record), show_marks(record, yes, no);
+    if (has_row(call) || has_number(call)) fputc(' ', record), show_marks(record, yes, no);
     fprintf(record, "%s%s\n", *name ? " " : "", name);
     if (fflush(record) != 0) fail("cannot be written", "the log");
 }
@@ -252,28 +305,31 @@ static int refused(void) {
 
 /* Opens the session and makes the calls of the log, if there are any. */
 static int take_up(const char *path) {
-    size_t words = 0, room = 0, row = layout.objects;
+    size_t words = 0, room = 0, answer_words, row = layout.objects;
     uint64_t *calls = NULL, *answers;
     char line[LINE];
     FILE *in = path ? fopen(path, "r") : NULL;
     while (in && fgets(line, sizeof line, in)) {
-        uint64_t call[3] = {ZUNDRAFL_STEP, 0, 0};
+        uint64_t call[CALL_WORDS] = {ZUNDRAFL_STEP, 0, 0, 0};
         char *rest = line, *word = next_word(&rest);
-        if (words + 3 > room && !(calls = realloc(calls, (room = 2 * room + 3) * sizeof *calls))) fail("too long", path);
+        if (words == room && !(calls = realloc(calls, (room = 2 * room + CALL_WORDS) * sizeof *calls))) fail("too long", path);
         if (strcmp(word, "yes") == 0 && !*rest) call[0] = ZUNDRAFL_YES;
         else if (has_row(word) && read_named_row(&rest, &call[1], &call[2]) && strlen(rest) <= MOST_NAME)
             call[0] = *word == 'n' ? ZUNDRAFL_NO : ZUNDRAFL_FILE;
+        else if (has_number(word) && read_named_row(&rest, &call[2], &call[3]) && read_number(rest, &call[1]))
+            call[0] = ZUNDRAFL_FILL, call[1]--;
         else if (strcmp(word, "step") != 0 || *rest) fail("is no log of this table", path);
         if (has_row(word) && row < ZUNDRAFL_MOST_ROWS) strcpy(object_names[row++], rest);
         memcpy(calls + words, call, sizeof call);
-        words += 3;
+        words += CALL_WORDS;
     }
     if (in) fclose(in);
-    answers = calloc(words + 1, sizeof *answers);
+    answer_words = words / CALL_WORDS * ANSWER_WORDS;
+    answers = calloc(answer_words + 1, sizeof *answers);
     if (!answers) fail("too long", path);
     zundrafl_open_and_replay(&session, layout.attributes, layout.objects, rows, ROW_WORDS, list, RULE_WORDS, background, background_words,
-                             calls ? calls : answers, words, answers, words, &answer);
-    for (size_t i = 0; answer.code == ZUNDRAFL_TAKEN && i < words; i += 3)
+                             calls ? calls : answers, words, answers, answer_words, &answer);
+    for (size_t i = 0; answer.code == ZUNDRAFL_TAKEN && i < answer_words; i += ANSWER_WORDS)
         if (answers[i] < 100) fail("was written over another table or background", path);
     free(calls);
     free(answers);
@@ -317,10 +373,10 @@ static int show_nearly(uint64_t percent) {
     return 1;
 }
 
-/* Asks the question, or with an empty conclusion, when the interview is finished, whether there is another row. */
+/* Asks the question, or with an empty conclusion, when the interview is finished, whether there is another row or mark. */
 static void ask(uint64_t premise, uint64_t conclusion) {
     if (conclusion == 0) {
-        printf("Finished. Another row, or an empty line: ");
+        printf("Finished. Another row or mark, or an empty line: ");
         return;
     }
     printf(premise ? "Does every row with " : "Does every row");
@@ -350,6 +406,19 @@ static void take_row(const char *call, uint64_t yes, uint64_t no, const char *na
     else show_sentence(answer.code);
 }
 
+/* Takes a mark of a row, both called by their names. */
+static void take_mark(const char *text, int is_yes) {
+    char number[MOST_NAME + 1];
+    size_t row;
+    uint64_t property, yes, no;
+    if (!read_place(text, &row, &property)) return;
+    yes = is_yes ? property : 0, no = property & ~yes;
+    zundrafl_fill_row(&session, rows, ROW_WORDS, list, RULE_WORDS, background, background_words, row, yes, no, &answer);
+    sprintf(number, "%zu", row + 1);
+    if (answer.code == ZUNDRAFL_TAKEN) write_call("mark", yes, no, number);
+    else show_sentence(answer.code);
+}
+
 static void test_row(uint64_t yes, uint64_t no) {
     zundrafl_test_row(&session, rows, ROW_WORDS, list, RULE_WORDS, background, background_words, yes, no, &answer);
     if (answer.code == ZUNDRAFL_REFUTES) puts("It refutes the question.");
@@ -358,7 +427,7 @@ static void test_row(uint64_t yes, uint64_t no) {
 
 /* One line to what is asked; 0 at the end of the lines, and at an empty one when the interview is finished. */
 static int reply(uint64_t premise, uint64_t conclusion) {
-    char line[LINE], *rest = line, *word;
+    char line[LINE], *rest = line, *word, *last;
     uint64_t yes = 0, no = 0;
     int asked = conclusion != 0;
     ask(premise, conclusion);
@@ -371,8 +440,14 @@ static int reply(uint64_t premise, uint64_t conclusion) {
     else if (asked && is(word, "no") && read_named_row(&rest, &yes, &no)) take_row("no", yes, no, rest);
     else if (is(word, "row") && read_named_row(&rest, &yes, &no)) take_row("row", yes, no, rest);
     else if (asked && is(word, "test") && read_named_row(&rest, &yes, &no) && !*rest) test_row(yes, no);
-    else if (asked) fprintf(stderr, "Write yes, or no, row or test and %zu marks: X yes, . no, ? unknown.\n", layout.attributes);
-    else fprintf(stderr, "Write row and %zu marks: X yes, . no, ? unknown; or an empty line.\n", layout.attributes);
+    else if (is(word, "mark") && (last = last_word(rest)) > rest && (lower(last), is(last, "yes") || is(last, "no")))
+        take_mark(rest, *last == 'y');
+    else if (asked)
+        fprintf(stderr, "Write yes, or no, row or test and %zu marks: X yes, . no, ? unknown; or mark, a row, a property and yes or no.\n",
+                layout.attributes);
+    else
+        fprintf(stderr, "Write row and %zu marks: X yes, . no, ? unknown; or mark, a row, a property and yes or no; or an empty line.\n",
+                layout.attributes);
     return 1;
 }
 

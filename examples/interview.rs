@@ -18,17 +18,20 @@ use zundrafl::*;
 const ROW_WORDS: usize = 2 * MOST_ROWS;
 const RULE_WORDS: usize = 2 * MOST_RULES;
 const MOST_NAME: usize = 80;
+/// Of a log that is made.
+const ANSWER_WORDS: usize = 3;
 
 const USAGE: &str = "\
 usage: interview [--background FILE] [--log FILE] [--save FILE] [--nearly PERCENT] TABLE
   TABLE       a table in Burmeister's layout; X yes, . no, ? unknown
   background  rules that hold from the start, one a line: has fur, flies -> breathes air
   log         the interview so far is taken up from it, and written to it as it goes
-  save        the table with the rows that you gave is written to it at the end
+  save        the table with the rows and marks that you gave is written to it at the end
   nearly      shown first: what more than this percentage of the rows with a property have too, and the rows that stand in the way
 Answer a question with yes (y), or with no (n) and a row of marks that refutes it; behind the marks the row may get a name.
 A mark that the rules imply may stay unknown. At a question, and when the interview is finished, row (r) and marks file a row that need
-not refute anything; at a question test (t) and marks say whether a row refutes it, and file nothing.
+not refute anything, and mark (m) fills in a mark that was unknown: mark cat flies no. There a row is called by its name, or as row 3.
+At a question test (t) and marks say whether a row refutes it, and file nothing.
 ";
 
 /// Why an interview cannot go on: what to say, and the exit status.
@@ -57,6 +60,22 @@ fn first_word(text: &[u8]) -> (&[u8], &[u8]) {
     let text = &text[start..end];
     let (word, rest) = text.split_at(text.iter().position(white).unwrap_or(text.len()));
     (word, &rest[rest.iter().position(|b| !white(b)).unwrap_or(0)..])
+}
+
+/// A text without the white space behind it.
+fn trimmed_end(text: &[u8]) -> &[u8] {
+    &text[..text.iter().rposition(|b| !white(b)).map_or(0, |last| last + 1)]
+}
+
+/// A text before its last word, yes or no, and whether that is yes.
+fn before_reply(text: &[u8]) -> Option<(&[u8], bool)> {
+    let (before, last) = text.split_at(text.iter().rposition(white)? + 1);
+    let yes = match last.to_ascii_lowercase().as_slice() {
+        b"yes" | b"y" => true,
+        b"no" | b"n" => false,
+        _ => return None,
+    };
+    Some((trimmed_end(before), yes))
 }
 
 /// A table file and the session over it, with the words that are lent to every call.
@@ -122,23 +141,27 @@ impl Interview {
 
     /// Opens the session and makes the calls of the log, if there are any.
     fn take_up(&mut self, path: Option<&str>) -> Result<Option<File>, Stop> {
-        let mut calls = Vec::new();
+        let mut calls: Vec<[u64; 4]> = Vec::new();
         let log = path.and_then(|path| fs::read(path).ok()).unwrap_or_default();
         for line in log.split_inclusive(|b| *b == b'\n') {
             let call = match first_word(line) {
-                (b"step", b"") => Some([STEP, 0, 0]),
-                (b"yes", b"") => Some([YES, 0, 0]),
+                (b"step", b"") => Some([STEP, 0, 0, 0]),
+                (b"yes", b"") => Some([YES, 0, 0, 0]),
                 (word @ (b"no" | b"row"), row) => {
                     self.named_row(row).filter(|(_, name)| name.len() <= MOST_NAME).map(|((yes, no), name)| {
                         self.filed.push(name.to_vec());
-                        [if word == b"no" { NO } else { FILE }, yes, no]
+                        [if word == b"no" { NO } else { FILE }, yes, no, 0]
                     })
                 }
+                (b"mark", marks) => self.named_row(marks).and_then(|((yes, no), row)| {
+                    let row = number(std::str::from_utf8(row).ok()?)?;
+                    Some([FILL, row.wrapping_sub(1), yes, no])
+                }),
                 _ => None,
             };
-            calls.extend(call.ok_or_else(|| wrong("is no log of this table", path.unwrap_or_default()))?);
+            calls.push(call.ok_or_else(|| wrong("is no log of this table", path.unwrap_or_default()))?);
         }
-        let (mut answers, mut a) = (vec![0; calls.len()], Answer::default());
+        let (calls, mut answers, mut a) = (calls.concat(), vec![0; ANSWER_WORDS * calls.len()], Answer::default());
         let (n, used) = (self.attributes.len(), self.objects.len());
         let ((r, l), (b, b_words)) = ((self.rows.as_mut_ptr(), self.list.as_mut_ptr()), (self.background.as_ptr(), self.background.len()));
         let ((c, c_words), (w, w_words)) = ((calls.as_ptr(), calls.len()), (answers.as_mut_ptr(), answers.len()));
@@ -146,7 +169,7 @@ impl Interview {
         if a.code != TAKEN {
             return Err(self.refused(a));
         }
-        if answers.chunks(3).any(|a| a[0] < 100) {
+        if answers.chunks(ANSWER_WORDS).any(|a| a[0] < 100) {
             return Err(wrong("was written over another table or background", path.unwrap_or_default()));
         }
         path.map(|path| OpenOptions::new().create(true).append(true).open(path).map_err(|_| wrong("cannot be written", path))).transpose()
@@ -184,6 +207,13 @@ impl Interview {
         let mut a = Answer::default();
         let (r, l, b) = (self.rows.as_mut_ptr(), self.list.as_ptr(), self.background.as_ptr());
         unsafe { zundrafl_file_row(&mut self.session, r, ROW_WORDS, l, RULE_WORDS, b, self.background.len(), yes, no, &mut a) };
+        a
+    }
+
+    fn fill_row(&mut self, row: usize, yes: u64, no: u64) -> Answer {
+        let mut a = Answer::default();
+        let (r, l, b) = (self.rows.as_mut_ptr(), self.list.as_ptr(), self.background.as_ptr());
+        unsafe { zundrafl_fill_row(&mut self.session, r, ROW_WORDS, l, RULE_WORDS, b, self.background.len(), row, yes, no, &mut a) };
         a
     }
 
@@ -232,6 +262,26 @@ impl Interview {
             None => self.objects[row].clone(),
             Some(filed) if self.filed[filed].is_empty() => format!("row {}", row + 1),
             Some(filed) => String::from_utf8_lossy(&self.filed[filed]).into_owned(),
+        }
+    }
+
+    /// The row and the property that a text calls, with white space between, or what is wrong: the row by its name or by its number.
+    fn place(&self, text: &[u8]) -> Result<(usize, u64), &'static str> {
+        let (text, mut named, mut found) = (String::from_utf8_lossy(text), false, Vec::new());
+        for (i, name) in self.attributes.iter().enumerate() {
+            let Some(before) = text.as_bytes().strip_suffix(name.as_bytes()) else { continue };
+            let row = trimmed_end(before);
+            if before.is_empty() || row.len() < before.len() {
+                named = true;
+                let called = |j: &usize| row == self.saved_name(*j).as_bytes() || row == format!("row {}", j + 1).as_bytes();
+                found.extend((0..self.session.rows).filter(called).map(|j| (j, 1 << i)));
+            }
+        }
+        match found[..] {
+            [place] => Ok(place),
+            [] if !named => Err("No property is called so.\n"),
+            [] => Err("No row is called so: write its name, or row and its number.\n"),
+            _ => Err("More than one mark is called so: write row and the row's number.\n"),
         }
     }
 
@@ -304,10 +354,10 @@ impl Interview {
         Ok(format!("Nearly always (more than {percent} per cent):{nothing}\n{lines}"))
     }
 
-    /// What is asked: the question, or with an empty conclusion, when the interview is finished, whether there is another row.
+    /// What is asked: the question, or with an empty conclusion, when the interview is finished, whether there is another row or mark.
     fn asked(&self, [premise, conclusion]: [u64; 2]) -> String {
         if conclusion == 0 {
-            return "Finished. Another row, or an empty line: ".to_string();
+            return "Finished. Another row or mark, or an empty line: ".to_string();
         }
         let with = if premise == 0 { String::new() } else { format!(" with {}", self.named(premise)) };
         format!("Does every row{with} have {}? ", self.named(conclusion))
@@ -327,26 +377,37 @@ impl Interview {
         Ok([format!("{call} {marks}{between}").as_bytes(), name].concat())
     }
 
+    /// Takes a mark of a row, both called by their names: the call for the log, or what to say.
+    fn take_mark(&mut self, text: &[u8], yes: bool) -> Result<Vec<u8>, String> {
+        let (row, property) = self.place(text)?;
+        let (yes, no) = if yes { (property, 0) } else { (0, property) };
+        match self.fill_row(row, yes, no) {
+            a if a.code == TAKEN => Ok(format!("mark {} {}", self.marks(yes, no), row + 1).into_bytes()),
+            a => Err(sentence(a.code)),
+        }
+    }
+
     /// One line to what is asked: the call for the log, nothing where a test passed, or what to say.
     fn reply(&mut self, line: &[u8], rule: [u64; 2]) -> Result<Option<Vec<u8>>, String> {
         let ((said, rest), n, asked) = (first_word(line), self.attributes.len(), rule[1] != 0);
-        match (said.to_ascii_lowercase().as_slice(), rest, self.named_row(rest)) {
-            (b"yes" | b"y", b"", _) if asked => match self.accept() {
+        match (said.to_ascii_lowercase().as_slice(), rest, self.named_row(rest), before_reply(rest)) {
+            (b"yes" | b"y", b"", _, _) if asked => match self.accept() {
                 a if a.code == TAKEN => Ok(Some(b"yes".to_vec())),
                 a if a.code == REPLY_CONTRADICTS => Err(sentence(a.code) + &self.explained(a.first as usize, rule)),
                 a => Err(sentence(a.code)),
             },
-            (b"no" | b"n", _, Some((row, name))) if asked => self.take_row("no", row, name).map(Some),
-            (b"row" | b"r", _, Some((row, name))) => self.take_row("row", row, name).map(Some),
-            (b"test" | b"t", _, Some(((yes, no), b""))) if asked => match self.test_row(yes, no) {
+            (b"no" | b"n", _, Some((row, name)), _) if asked => self.take_row("no", row, name).map(Some),
+            (b"row" | b"r", _, Some((row, name)), _) => self.take_row("row", row, name).map(Some),
+            (b"mark" | b"m", _, _, Some((place, yes))) => self.take_mark(place, yes).map(Some),
+            (b"test" | b"t", _, Some(((yes, no), b"")), _) if asked => match self.test_row(yes, no) {
                 a if a.code == REFUTES => {
                     println!("It refutes the question.");
                     Ok(None)
                 }
                 a => Err(sentence(a.code)),
             },
-            _ if asked => Err(format!("Write yes, or no, row or test and {n} marks: X yes, . no, ? unknown.\n")),
-            _ => Err(format!("Write row and {n} marks: X yes, . no, ? unknown; or an empty line.\n")),
+            _ if asked => Err(format!("Write yes, or no, row or test and {n} marks: X yes, . no, ? unknown; or mark, a row, a property and yes or no.\n")),
+            _ => Err(format!("Write row and {n} marks: X yes, . no, ? unknown; or mark, a row, a property and yes or no; or an empty line.\n")),
         }
     }
 

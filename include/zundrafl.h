@@ -23,7 +23,7 @@
 extern "C" {
 #endif
 
-enum { ZUNDRAFL_VERSION_MAJOR = 2, ZUNDRAFL_VERSION_MINOR = 1 }; /* minor: something was added; major: something was changed */
+enum { ZUNDRAFL_VERSION_MAJOR = 3, ZUNDRAFL_VERSION_MINOR = 0 }; /* minor: something was added; major: something was changed */
 
 enum {
     ZUNDRAFL_MOST_ATTRIBUTES = 64,
@@ -42,9 +42,9 @@ enum {
     ZUNDRAFL_ROW_CONTRADICTS = 6,   /* row `place` contradicts the rules in force */
     ZUNDRAFL_NOT_CLOSED = 7,        /* the current set is not closed */
     ZUNDRAFL_NO_QUESTION = 8,       /* a reply or a test, and no question stands */
-    ZUNDRAFL_BAD_ROW = 9,           /* the offered row: an attribute outside the n, or marked both ways */
+    ZUNDRAFL_BAD_ROW = 9,           /* the offered row or marks: an attribute outside the n, or marked both ways */
     ZUNDRAFL_NOT_REFUTING = 10,     /* the offered row does not refute the question */
-    ZUNDRAFL_REPLY_CONTRADICTS = 11, /* with the reply row `place` (yes) or the offered row (no, filing) contradicts */
+    ZUNDRAFL_REPLY_CONTRADICTS = 11, /* with the reply row `place` (yes), the offered row (no, filing) or the filled row contradicts */
     ZUNDRAFL_FULL = 12,             /* no place for the row or the rule */
     ZUNDRAFL_FILE_TOO_LONG = 21,
     ZUNDRAFL_NO_B = 22,             /* the first line is not `B` */
@@ -56,7 +56,9 @@ enum {
     ZUNDRAFL_NOT_AT_END = 28,       /* a line after the last one needed is not empty */
     ZUNDRAFL_MARK_UNKNOWN = 29,     /* in a table that has to be complete */
     ZUNDRAFL_TEXT_TOO_LONG = 30,    /* the text to write is longer than 65,535 bytes or than the output */
-    ZUNDRAFL_BAD_PERCENTAGE = 31    /* a percentage is above 99 */
+    ZUNDRAFL_BAD_PERCENTAGE = 31,   /* a percentage is above 99 */
+    ZUNDRAFL_NO_SUCH_ROW = 32,      /* a filling, and the row is not in use */
+    ZUNDRAFL_MARK_REVERSED = 33     /* a filling by which a yes of the row would become a no, or the reverse */
 };
 
 /* codes of answers that are no refusals, 100 and above */
@@ -64,7 +66,7 @@ enum {
     ZUNDRAFL_FINISHED = 100,
     ZUNDRAFL_MOVED = 101,
     ZUNDRAFL_ASKED = 102,    /* premise, conclusion */
-    ZUNDRAFL_TAKEN = 103,    /* an accepted opening, reply or filing, a log that was made, a table that was read or written, attributes that were listed */
+    ZUNDRAFL_TAKEN = 103,    /* an accepted opening, reply, filing or filling, a log that was made, a table that was read or written, attributes that were listed */
     ZUNDRAFL_FOLLOWS = 104,  /* 1 or 0 */
     ZUNDRAFL_REFUTED = 105,  /* the lowest row that refutes */
     ZUNDRAFL_UNREFUTED = 106,
@@ -72,15 +74,16 @@ enum {
     ZUNDRAFL_REFUTES = 108   /* the offered row refutes the question */
 };
 
-/* kinds of calls in a log, each with its two arguments; those of a step and a yes are not read */
+/* kinds of calls in a log, each with those of its three arguments that are read */
 enum {
-    ZUNDRAFL_STEP = 0,
-    ZUNDRAFL_YES = 1,
+    ZUNDRAFL_STEP = 0,        /* none */
+    ZUNDRAFL_YES = 1,         /* none */
     ZUNDRAFL_NO = 2,          /* yes marks, no marks */
     ZUNDRAFL_ASK_FOLLOWS = 3, /* premise, conclusion */
     ZUNDRAFL_ASK_REFUTED = 4, /* premise, conclusion */
     ZUNDRAFL_TEST = 5,        /* yes marks, no marks */
-    ZUNDRAFL_FILE = 6         /* yes marks, no marks */
+    ZUNDRAFL_FILE = 6,        /* yes marks, no marks */
+    ZUNDRAFL_FILL = 7         /* row, yes marks, no marks */
 };
 
 /* the session record: attributes, rows and list rules in use, current set */
@@ -115,7 +118,7 @@ typedef struct {
  *
  * Under the rules in force, background and list, a row counts as having the closure of its yes marks, and as lacking each attribute whose
  * addition to its yes marks gives a closure that meets its no marks. It refutes a rule if it so has the whole premise and lacks some of
- * the conclusion. The words keep the written marks, and 5, 6, 9 and 11 read those.
+ * the conclusion. The words keep the written marks, and 5, 6, 9, 11 and 33 read those.
  */
 
 /* Opens a session with the first `used` rows: an empty list, the closure of the empty set. Writes *session. 1 to 6. */
@@ -149,6 +152,13 @@ void zundrafl_test_row(const zundrafl_session *session, const uint64_t *rows, si
 void zundrafl_file_row(zundrafl_session *session, uint64_t *rows, size_t row_words, const uint64_t *list, size_t list_words,
                        const uint64_t *background, size_t background_words, uint64_t yes, uint64_t no, zundrafl_answer *answer);
 
+/* Fills in unknown marks of a row, at any time, as a filing: adds `yes` to the yes marks and `no` to the no marks of row `row`, of the opening
+ * or later, counted from 0. Marks that it has may be repeated, also all of them. Writes the two words of that row, and not *session. 1 to 7;
+ * 32 the row is not in use; 9 the marks have an attribute outside the n or mark one both ways; 33 a yes of the row would become a no, or the
+ * reverse; 11 the row as filled contradicts the rules in force. */
+void zundrafl_fill_row(zundrafl_session *session, uint64_t *rows, size_t row_words, const uint64_t *list, size_t list_words,
+                       const uint64_t *background, size_t background_words, size_t row, uint64_t yes, uint64_t no, zundrafl_answer *answer);
+
 /* Whether a rule follows from background and list: FOLLOWS with 1 or 0. 1 to 7. */
 void zundrafl_follows(const zundrafl_session *session, const uint64_t *rows, size_t row_words, const uint64_t *list, size_t list_words,
                       const uint64_t *background, size_t background_words, uint64_t premise, uint64_t conclusion, zundrafl_answer *answer);
@@ -157,8 +167,8 @@ void zundrafl_follows(const zundrafl_session *session, const uint64_t *rows, siz
 void zundrafl_refuted(const zundrafl_session *session, const uint64_t *rows, size_t row_words, const uint64_t *list, size_t list_words,
                       const uint64_t *background, size_t background_words, uint64_t premise, uint64_t conclusion, zundrafl_answer *answer);
 
-/* Makes a log of calls, three words each (kind, two arguments), and writes the answers, three words each, with rows, list and
- * *session as the calls leave them. Words past the last whole three are not read. 3 where the answers have no room for all calls:
+/* Makes a log of calls, four words each (kind, three arguments), and writes the answers, three words each, with rows, list and
+ * *session as the calls leave them. Words past the last whole four are not read. 3 where the answers have no room for all calls:
  * nothing is done then. */
 void zundrafl_replay(zundrafl_session *session, uint64_t *rows, size_t row_words, uint64_t *list, size_t list_words, const uint64_t *background,
                      size_t background_words, const uint64_t *calls, size_t call_words, uint64_t *answers, size_t answer_words,

@@ -2,8 +2,8 @@
 //! each does, and what it asks of pointers, is said there.
 #![allow(dead_code)]
 
-pub const VERSION_MAJOR: u32 = 2;
-pub const VERSION_MINOR: u32 = 1;
+pub const VERSION_MAJOR: u32 = 3;
+pub const VERSION_MINOR: u32 = 0;
 
 pub const MOST_ATTRIBUTES: usize = 64;
 pub const MOST_ROWS: usize = 512;
@@ -33,6 +33,8 @@ pub const NOT_AT_END: u64 = 28;
 pub const MARK_UNKNOWN: u64 = 29;
 pub const TEXT_TOO_LONG: u64 = 30;
 pub const BAD_PERCENTAGE: u64 = 31;
+pub const NO_SUCH_ROW: u64 = 32;
+pub const MARK_REVERSED: u64 = 33;
 
 pub const FINISHED: u64 = 100;
 pub const MOVED: u64 = 101;
@@ -51,6 +53,7 @@ pub const ASK_FOLLOWS: u64 = 3;
 pub const ASK_REFUTED: u64 = 4;
 pub const TEST: u64 = 5;
 pub const FILE: u64 = 6;
+pub const FILL: u64 = 7;
 
 #[repr(C)]
 #[derive(Clone, Copy, Debug, Default, PartialEq, Eq)]
@@ -152,6 +155,19 @@ unsafe extern "C" {
         list_words: usize,
         background: *const u64,
         background_words: usize,
+        yes: u64,
+        no: u64,
+        answer: *mut Answer,
+    );
+    pub fn zundrafl_fill_row(
+        session: *mut Session,
+        rows: *mut u64,
+        row_words: usize,
+        list: *const u64,
+        list_words: usize,
+        background: *const u64,
+        background_words: usize,
+        row: usize,
         yes: u64,
         no: u64,
         answer: *mut Answer,

@@ -25,10 +25,10 @@ use std::hint::black_box;
 use std::time::{Duration, Instant};
 
 use library::{
-    zundrafl_accept, zundrafl_file_row, zundrafl_follows, zundrafl_nearly, zundrafl_open_session, zundrafl_refuted,
-    zundrafl_reject, zundrafl_replay, zundrafl_step, zundrafl_test_row, zundrafl_write_table,
+    zundrafl_accept, zundrafl_file_row, zundrafl_fill_row, zundrafl_follows, zundrafl_nearly, zundrafl_open_session,
+    zundrafl_refuted, zundrafl_reject, zundrafl_replay, zundrafl_step, zundrafl_test_row, zundrafl_write_table,
 };
-use machine::{ACCEPTED, ASKED, Answer, FOLLOWS, MOVED, REFUTES, Record, UNREFUTED};
+use machine::{ACCEPTED, ANSWER_WORDS, ASKED, Answer, CALL_WORDS, FOLLOWS, MOVED, REFUTES, Record, UNREFUTED};
 use random::Random;
 use sets::Pair;
 
@@ -68,6 +68,7 @@ enum Call {
     No(Pair),
     Test(Pair),
     File(Pair),
+    Fill(usize, Pair),
     Follows(Pair),
     Refuted(Pair),
     /// A log with the one call whether a rule follows.
@@ -77,8 +78,8 @@ enum Call {
     Nearly(u64),
 }
 
-fn log(rule: Pair) -> [u64; 3] {
-    [FOLLOWS_KIND, rule.0, rule.1]
+fn log(rule: Pair) -> [u64; CALL_WORDS] {
+    [FOLLOWS_KIND, rule.0, rule.1, 0]
 }
 
 fn by_model(state: &mut State, call: Call) -> Answer {
@@ -90,9 +91,10 @@ fn by_model(state: &mut State, call: Call) -> Answer {
         Call::No(row) => machine::no(record, rows, list, background, row),
         Call::Test(row) => machine::test(record, rows, list, background, row),
         Call::File(row) => machine::file(record, rows, list, background, row),
+        Call::Fill(row, marks) => machine::fill(record, rows, list, background, row, marks),
         Call::Follows(rule) => machine::follows(record, rows, list, background, rule),
         Call::Refuted(rule) => machine::refuted(record, rows, list, background, rule),
-        Call::Replay(rule) => machine::replay(record, rows, list, background, &log(rule), &mut [0; 3]),
+        Call::Replay(rule) => machine::replay(record, rows, list, background, &log(rule), &mut [0; ANSWER_WORDS]),
         Call::Write => opened::write_table(record.n, record.rows, rows, names, out),
         Call::Nearly(premise) => nearly::nearly(record.n, record.rows, rows, premise, PERCENT),
     }
@@ -115,6 +117,7 @@ fn by_library(state: &mut State, call: Call) -> Answer {
             Call::No((yes, no)) => zundrafl_reject(s, r, r_len, l, l_len, b, b_len, yes, no, a),
             Call::Test((yes, no)) => zundrafl_test_row(s, r, r_len, l, l_len, b, b_len, yes, no, a),
             Call::File((yes, no)) => zundrafl_file_row(s, r, r_len, l, l_len, b, b_len, yes, no, a),
+            Call::Fill(row, (yes, no)) => zundrafl_fill_row(s, r, r_len, l, l_len, b, b_len, row, yes, no, a),
             Call::Follows((premise, conclusion)) => {
                 zundrafl_follows(s, r, r_len, l, l_len, b, b_len, premise, conclusion, a)
             }
@@ -122,7 +125,7 @@ fn by_library(state: &mut State, call: Call) -> Answer {
                 zundrafl_refuted(s, r, r_len, l, l_len, b, b_len, premise, conclusion, a)
             }
             Call::Replay(rule) => {
-                let (calls, mut answers) = (log(rule), [0; 3]);
+                let (calls, mut answers) = (log(rule), [0; ANSWER_WORDS]);
                 let (c, w) = (calls.as_ptr(), answers.as_mut_ptr());
                 zundrafl_replay(s, r, r_len, l, l_len, b, b_len, c, calls.len(), w, answers.len(), a)
             }
@@ -210,6 +213,9 @@ fn calls(random: &mut Random, n: usize, rows: usize, rules: usize) -> Vec<Measur
     // An accepted row needs a free place: the last row is not in use yet.
     let mut one_free = asking.clone();
     one_free.record.rows -= 1;
+    // The last row has no marks yet.
+    let mut unmarked = moving.clone();
+    unmarked.rows[2 * (rows - 1)..].fill(0);
 
     let rule = (random.subset(all), random.member(all));
     // Two properties that some row has.
@@ -224,6 +230,7 @@ fn calls(random: &mut Random, n: usize, rows: usize, rules: usize) -> Vec<Measur
         ("no", one_free.clone(), Call::No(refuting), ACCEPTED),
         ("test", one_free.clone(), Call::Test(refuting), REFUTES),
         ("filing", one_free, Call::File(refuting), ACCEPTED),
+        ("filling", unmarked, Call::Fill(rows - 1, table[rows - 1]), ACCEPTED),
         ("follows", moving.clone(), Call::Follows(rule), FOLLOWS),
         ("refuted", moving.clone(), Call::Refuted((all, all)), UNREFUTED),
         ("replay", moving.clone(), Call::Replay(rule), ACCEPTED),

@@ -10,10 +10,13 @@ import sys
 import tempfile
 
 PETS = "examples/tables/pets"
-HINT = "Write yes, or no, row or test and 4 marks: X yes, . no, ? unknown.\n"
-LATE_HINT = "Write row and 4 marks: X yes, . no, ? unknown; or an empty line.\n"
-ANOTHER = "Finished. Another row, or an empty line: "
+HINT = "Write yes, or no, row or test and 4 marks: X yes, . no, ? unknown; or mark, a row, a property and yes or no.\n"
+LATE_HINT = "Write row and 4 marks: X yes, . no, ? unknown; or mark, a row, a property and yes or no; or an empty line.\n"
+ANOTHER = "Finished. Another row or mark, or an empty line: "
 REFUTES = "It refutes the question.\n"
+NO_PROPERTY = "No property is called so.\n"
+NO_ROW = "No row is called so: write its name, or row and its number.\n"
+SEVERAL = "More than one mark is called so: write row and the row's number.\n"
 
 
 def sentences():
@@ -329,6 +332,140 @@ def filings(runs):
     assert runs.run([one], "row .\n", 0, err="") == f"Does every row have a? {ANOTHER}\n0 rules, 2 rows\n"
 
 
+def fillings(runs):
+    with open("tests/interview.replies") as replies, open("tests/interview.list") as wanted:
+        replies, wanted = replies.read(), wanted.read()
+    first, having = "Does every row have breathes air? ", ["has fur", "flies", "swims", "breathes air"]
+    pets = {"cat": "X?.X", "parrot": ".X.X", "goldfish": "..X?"}
+    filed = ["..X.", "X..X", "..XX", ".XXX", "X.XX", "XX.X"]
+
+    def saved(rows):
+        return table(list(rows), having, list(rows.values()), title="")
+
+    # A mark of a row of the table answers the question as a row does.
+    said = runs.run([PETS], replies, 0).replace("9 rows", "8 rows")
+    marked = replies.replace("no ..X.\n", "mark goldfish breathes air no\n", 1)
+    rows = {**pets, "goldfish": "..X.", **{f"row {number}": marks for number, marks in enumerate(filed[1:], 4)}}
+    loose = marked.replace("mark goldfish breathes air no\n", " M\tgoldfish \t breathes air\t N \r\n")
+    for given in [marked, loose]:
+        assert runs.save([PETS], given, 0, saved(rows), err=HINT + refused(10)) == said
+    one = runs.path("one", table(["r"], ["a"], ["?"]))
+    assert runs.run([one], "mark r a no\n", 0, err="") == f"Does every row have a? {ANOTHER}\n0 rules, 1 rows\n"
+    said = runs.run([one], "mark r a yes\nmark r a yes\nyes\nMARK r a Yes\n", 0, err="")
+    assert said == "Does every row have a? " * 3 + f"{ANOTHER * 2}\n1 rules, 1 rows\nnothing -> a\n"
+
+    # Marks before the first reply, between the replies and when the interview is finished, of rows of the table and of rows given, with
+    # names and without; also such as the row has.
+    lines = replies.replace("maybe\n", "").replace("no .X.?\n", "").splitlines(keepends=True)
+    early = "mark cat has fur yes\nrow X??X dog\nmark dog swims no\nrow ????\nmark row 5 has fur no\n"
+    late = "mark cat flies no\nmark dog flies yes\nmark goldfish breathes air yes\n"
+    late += "mark row 5 flies yes\nmark row 3 breathes air yes\nmark row 5 breathes air y\n"
+    rows = {**pets, "cat": "X..X", "goldfish": "..XX", "dog": "XX.X", "row 5": ".X?X"}
+    rows |= {f"row {number}": marks for number, marks in enumerate(filed, 6)}
+    whole = early + lines[0] + "mark row 6 has fur no\n" + "".join(lines[1:]) + late
+    ended = wanted.replace("9 rows", "11 rows")
+    said = runs.save([PETS], whole, 0, saved(rows), out=f"{ANOTHER * 7}\n{ended}", err="")
+    assert said.startswith(first * 6 + "Does every row with")
+
+    # The log has them in their order, and is taken up at every line.
+    log, at_once = os.path.join(runs.folder, "filled-log"), os.path.join(runs.folder, "filled-at-once")
+    runs.run([PETS, "--log", at_once], whole, 0, out=f"{ANOTHER * 7}\n{ended}", err="")
+    ends = lines[-1:] + late.splitlines(keepends=True)
+    for line in whole.splitlines(keepends=True):
+        done = runs.run([PETS, "--log", log], line, int(line not in ends), err="")
+    assert done.endswith(f"{ANOTHER * 2}\n{ended}")
+    shown = nearly_shown(list(rows), having, list(rows.values()), 60)
+    assert runs.run([PETS, "--log", log, "--nearly", "60"], "", 0, err="") == f"{shown}{ANOTHER}\n{ended}"
+    runs.save([PETS, "--log", log], "", 0, saved(rows), out=f"{ANOTHER}\n{ended}", err="")
+    with open(log) as text:
+        text = text.read()
+    runs.holds(at_once, text)
+    assert text.startswith("mark X??? 1\nrow X??X dog\nmark ??.? 4\nrow ????\nmark .??? 5\nno ..X.\nstep\nmark .??? 6\n")
+    assert text.endswith("step\nmark ?.?? 1\nmark ?X?? 4\nmark ???X 3\nmark ?X?? 5\nmark ???X 3\nmark ???X 5\n")
+    several = runs.path("several-log", "row ????\nmark ..X. 3\r\nmark X.?? 04\n")
+    runs.save([PETS, "--log", several], "", 1, saved({**pets, "goldfish": "..X.", "row 4": "X.??"}), err="")
+    for wrong in ["", " ???.", " 3", " 3 ???.", " ???. cat", " ???. 3 4", " ???. -3", " ???. +3", " ??. 3"]:
+        wrong = runs.path("wrong-log", f"mark{wrong}\n")
+        runs.run([PETS, "--log", wrong], "", 2, out="", err=f"{wrong}: is no log of this table\n")
+    others = ["mark .??? 1\n", "mark ???. 4\nrow ????\n", "row ???.\nmark X??? 4\n"]
+    for other in others + [f"mark ???. {number}\n" for number in [0, 4, 2**63 + 1, 2**64, 2**64 + 3]]:
+        other = runs.path("other-log", other)
+        runs.run([PETS, "--log", other, "--background", runs.path("furry", "has fur -> breathes air\n")], "", 2, out="",
+                 err=f"{other}: was written over another table or background\n")
+
+    # What is refused, at a question and when the interview is finished.
+    wrong = [
+        ("cat has fur no", refused(33)), ("goldfish flies yes", refused(33)), ("row 3 swims no", refused(33)),
+        ("Cat flies no", NO_ROW), ("dog flies no", NO_ROW), ("row 0 flies no", NO_ROW), ("row 99 flies no", NO_ROW), ("row flies no", NO_ROW),
+        ("3 flies no", NO_ROW), ("row 01 flies no", NO_ROW), ("flies no", NO_ROW), ("breathes air no", NO_ROW),
+        ("cat fly no", NO_PROPERTY), ("cat Flies no", NO_PROPERTY), ("catflies no", NO_PROPERTY), ("cat breathes  air no", NO_PROPERTY),
+        ("cat no", NO_PROPERTY), ("cat flies no no", NO_PROPERTY),
+        ("cat flies", None), ("cat flies maybe", None), ("cat flies .", None), ("no", None), ("", None),
+    ]
+    given = "".join(f"mark {text}\n" for text, _ in wrong) + "marks cat flies no\n"
+    why = [said for _, said in wrong] + [None]
+    runs.save([PETS], given, 1, saved(pets), out=first * (len(why) + 1) + "\n0 rules, 3 rows, not finished\n",
+              err="".join(said or HINT for said in why))
+    rows = {**pets, **{f"row {number}": marks for number, marks in enumerate(filed, 4)}}
+    runs.save([PETS], replies + given, 0, saved(rows), out=f"{ANOTHER * (len(why) + 1)}\n{wanted}",
+              err=HINT + refused(10) + "".join(said or LATE_HINT for said in why))
+    # By the rules agreed to a stone that does not breathe has no fur and does not fly.
+    stone = "row ???. stone\nmark stone flies yes\nmark stone has fur yes\nmark stone flies no\nmark stone swims yes\n"
+    runs.save([PETS], replies + stone, 0, saved({**rows, "stone": "?.X."}), out=f"{ANOTHER * 6}\n{wanted.replace('9 rows', '10 rows')}",
+              err=HINT + refused(10) + refused(11) * 2)
+    unsure = [runs.path("unsure", table(["r"], ["a", "b", "c"], ["X?."])), "--background", runs.path("rules", "a -> b\n")]
+    runs.save(unsure[:1], "mark r b no\n", 1, table(["r"], ["a", "b", "c"], ["X.."], title=""), err="")
+    asked = "Does every row have a, b? " * 4
+    said = runs.run(unsure, "mark r b no\nmark r b yes\nmark r c yes\n", 1, err=refused(11) + refused(33))
+    assert said == asked + "\n0 rules, 1 rows, not finished\n"
+    # Of a row that contradicts with a yes, what it lacks is filled in.
+    both = [runs.path("both", table(["r"], ["a", "b", "c", "d"], ["X??."])), "--background", runs.path("three", "a, b, c -> d\n")]
+    why = "It is row 1 (r): it has a, so by the rules it would have d, which it lacks.\n"
+    why += "It lacks at least one of b, c. If it is right, answer with a dot for each that it lacks: no X??.\n"
+    asked = "Does every row have a, b, c? " * 2 + "Does every row have a, c? "
+    assert runs.run(both, "yes\nmark r b no\n", 1, err=refused(11) + why) == asked + "\n0 rules, 1 rows, not finished\n"
+    full = runs.path("full", table([str(i) for i in range(512)], ["a"], ["?"] * 512))
+    said = runs.run([full], "mark 511 a yes\nmark row 512 a no\nmark row 513 a no\nmark 0 a no\n", 0, err=refused(33) + NO_ROW)
+    assert said == "Does every row have a? " * 4 + f"{ANOTHER}\n0 rules, 512 rows\n"
+
+    # Names with spaces, names that several rows have or that look like a number, a row by its number where the name does not tell.
+    def fills(rows, properties, before, after, given, said=""):
+        path = runs.path("names", table(rows, properties, before))
+        runs.save([path], given, 1, table(rows, properties, after, title=""), err=said)
+
+    fills(["the cat", "the"], ["cat flies", "flies", "x"], ["???", "???"], ["?.?", "X??"],
+          "mark the cat flies no\nmark row 1 flies no\nmark row 2 cat flies yes\n", SEVERAL)
+    fills(["cat", "cat", "x"], ["a", "b"], ["??", "??", "??"], ["??", "X?", "??"], "mark cat a yes\nmark row 2 a yes\n", SEVERAL)
+    fills(["row 2", "x"], ["a", "b"], ["??", "??"], ["X?", ".?"], "mark row 2 a yes\nmark row 1 a yes\nmark x a no\n", SEVERAL)
+    fills(["r", "s"], ["a", "a", "b"], ["???", "???"], ["???", "???"], "mark r a yes\nmark row 2 a no\n", SEVERAL * 2)
+    fills(["s, t", "mark", "r: x", "a -> b"], ["a, b", "->", "b"], ["???"] * 4, ["X??", "?.?", ".??", "?X?"],
+          "mark s, t a, b yes\nmark mark -> no\nmark r: x a, b no\nmark a -> b -> yes\n")
+    fills(["yes", "no"], ["yes", "no", "maybe"], ["???", "???"], [".??", "?X?"], "mark yes yes no\nmark no no yes\n")
+    long = ["\u00e9" * 40, "n" * 80, "p" * 80]
+    fills(long[:2], [long[2], "\u00e8"], ["??", "??"], ["X?", "??"], f"mark {long[0]} {long[2]} yes\nmark {long[1][1:]} {long[2]} no\n", NO_ROW)
+    bytes_in = [text.encode().replace(b"name", b"\xe9\xff").replace(b"given", b"\xfe") for text in [
+        table(["name", "r"], ["a", "b"], ["??", "??"]), "mark name a yes\nrow ?? given\nmark given a no\nmark name given a no\n",
+        table(["name", "r", "given"], ["a", "b"], ["X?", "??", ".?"], title="")]]
+    runs.save([runs.path("bytes", bytes_in[0])], bytes_in[1], 1, bytes_in[2], err=NO_ROW)
+
+    # Random marks: those that are unknown or the same are taken, with no rules in force. The last property keeps the question.
+    source = random.Random(7)
+    for _ in range(12):
+        count, n, given, said = source.randrange(1, 9), source.randrange(2, 7), "", ""
+        rows, properties = [f"the row {i}" for i in range(count)], [f"property {i}" for i in range(n)]
+        before = ["".join(source.choice("X.????") for _ in range(n - 1)) + "?" for _ in rows]
+        after = [list(marks) for marks in before]
+        for _ in range(30):
+            row, number, mark = source.randrange(count), source.randrange(n - 1), source.choice("X.")
+            called = source.choice([rows[row], f"row {row + 1}"])
+            given += f"mark {called} {properties[number]} {'yes' if mark == 'X' else 'no'}\n"
+            if after[row][number] in ["?", mark]:
+                after[row][number] = mark
+            else:
+                said += refused(33)
+        fills(rows, properties, before, ["".join(marks) for marks in after], given, said)
+
+
 def table_parts(text):
     """The names of the rows and of the properties, and the lines of marks."""
     lines = text.splitlines()
@@ -444,7 +581,7 @@ def main():
     for program in sys.argv[1:]:
         with tempfile.TemporaryDirectory() as folder:
             runs = Runs(os.path.abspath(program), folder)
-            for part in [uses, files, interviews, refusals, saves, filings, listings]:
+            for part in [uses, files, interviews, refusals, saves, filings, fillings, listings]:
                 part(runs)
             shown.append(runs.shown)
             print(f"{program}: {len(runs.shown)} runs say what they have to")

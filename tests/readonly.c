@@ -1,6 +1,6 @@
-/* A record or a layout in memory that cannot be written: the calls that only read, a step that asks and every refusal leave it alone. An
- * output in such memory: a writing that is refused leaves it alone. Row words in such memory: a test and a listing leave them alone, refused
- * or not, and so does a filing that is refused. */
+/* A record or a layout in memory that cannot be written: the calls that only read, a step that asks, a filling and every refusal leave it
+ * alone. An output in such memory: a writing that is refused leaves it alone. Row words in such memory: a test and a listing leave them
+ * alone, refused or not, and so does a filing or a filling that is refused. */
 #define _DEFAULT_SOURCE
 #include "zundrafl.h"
 #include <stdio.h>
@@ -31,7 +31,7 @@ static void *locked(const void *from, size_t size)
 int main(void)
 {
     static const uint8_t file[] = "B\n\n1\n2\n\nrow\none\ntwo\nX.\n";
-    uint64_t rows[4] = {0}, list[4] = {0}, background[2] = {0};
+    uint64_t rows[4] = {0}, list[4] = {0}, background[2] = {0}, known[4] = {1, 0, 0, 2};
     zundrafl_session session = {0, 0, 0, 0};
     zundrafl_layout layout = {0, 0, 0, 0, 0};
     zundrafl_answer answer;
@@ -47,9 +47,11 @@ int main(void)
     uint8_t *out = locked(nothing, sizeof nothing);
     static const uint64_t marked[6] = {3, 0, 1, 2, 3, 3}; /* the third row marks both attributes both ways */
     uint64_t *marks = locked(marked, sizeof marked);
+    static const uint64_t half[4] = {1, 0, 0, 0}, rule[2] = {1, 2}; /* of the first row the second attribute is unknown */
+    uint64_t *unsure = locked(half, sizeof half);
     zundrafl_session two = {2, 2, 0, 0};
     zundrafl_session *filed = locked(&two, sizeof two);
-    if (asked == NULL || full == NULL || kept == NULL || out == NULL || marks == NULL || filed == NULL)
+    if (asked == NULL || full == NULL || kept == NULL || out == NULL || marks == NULL || unsure == NULL || filed == NULL)
         return 1;
 
     zundrafl_follows(asked, rows, 4, list, 4, background, 0, 0, 1, &answer);
@@ -78,10 +80,27 @@ int main(void)
     expect("a refused filing", &answer, ZUNDRAFL_BAD_ROW);
     zundrafl_file_row(filed, marks, 4, list, 4, background, 0, 0, 1, &answer);
     expect("a filing without a place", &answer, ZUNDRAFL_FULL);
+    zundrafl_fill_row(filed, known, 4, list, 4, background, 0, 1, 1, 2, &answer);
+    expect("a filling", &answer, ZUNDRAFL_TAKEN);
+    if (known[0] != 1 || known[1] != 0 || known[2] != 1 || known[3] != 2) {
+        printf("a filling: rows %llu %llu, %llu %llu\n", (unsigned long long)known[0], (unsigned long long)known[1],
+               (unsigned long long)known[2], (unsigned long long)known[3]);
+        failures++;
+    }
+    zundrafl_fill_row(filed, marks, 6, list, 4, background, 0, 2, 0, 0, &answer);
+    expect("a filling of a row not in use", &answer, ZUNDRAFL_NO_SUCH_ROW);
+    zundrafl_fill_row(filed, marks, 6, list, 4, background, 0, 1, 2, 2, &answer);
+    expect("a filling marked both ways", &answer, ZUNDRAFL_BAD_ROW);
+    zundrafl_fill_row(filed, marks, 6, list, 4, background, 0, 1, 1, 1, &answer);
+    expect("a filling marked both ways, once as before", &answer, ZUNDRAFL_BAD_ROW);
+    zundrafl_fill_row(filed, marks, 6, list, 4, background, 0, 1, 2, 0, &answer);
+    expect("a filling that reverses", &answer, ZUNDRAFL_MARK_REVERSED);
+    zundrafl_fill_row(filed, unsure, 4, list, 4, rule, 2, 0, 0, 2, &answer);
+    expect("a filling that contradicts", &answer, ZUNDRAFL_REPLY_CONTRADICTS);
     zundrafl_open_session(asked, 65, 0, rows, 4, list, 4, background, 0, &answer);
     expect("a refused opening", &answer, 1);
-    zundrafl_replay(asked, rows, 4, list, 4, background, 0, background, 2, list, 0, &answer);
-    expect("an empty log", &answer, ZUNDRAFL_TAKEN);
+    zundrafl_replay(asked, rows, 4, list, 4, background, 0, marks, 3, list, 0, &answer);
+    expect("a log shorter than a call", &answer, ZUNDRAFL_TAKEN);
     zundrafl_object_name(kept, file, sizeof file - 1, 0, &answer);
     expect("a row's name", &answer, ZUNDRAFL_TAKEN);
     zundrafl_attribute_name(kept, file, sizeof file - 1, 2, &answer);

@@ -1,6 +1,6 @@
 //! The plain machine of document 01 ("The interview", refusals 1 to 12): every call of a session over lent words of any
-//! length and content, with rows having and lacking what their marks imply (request 5/13), and with the no in two calls, test
-//! and filing (request 6/13). A refused call changes nothing.
+//! length and content, with rows having and lacking what their marks imply (request 5/13), with the no in two calls, test
+//! and filing (request 6/13), and with marks filled in (request 7/13). A refused call changes nothing.
 
 use crate::sets::{self, Pair};
 
@@ -18,8 +18,9 @@ pub const UNREFUTED: u64 = 106;
 pub const UNKNOWN_KIND: u64 = 107;
 pub const REFUTES: u64 = 108;
 
-/// The words of a call in a log, and of its answer.
-pub const CALL_WORDS: usize = 3;
+/// The words of a call in a log, its kind and three arguments, and those of its answer.
+pub const CALL_WORDS: usize = 4;
+pub const ANSWER_WORDS: usize = 3;
 
 #[repr(C)]
 #[derive(Clone, Copy, Debug, PartialEq, Eq)]
@@ -169,6 +170,21 @@ impl Held {
         record.rows += 1;
         Ok(Answer::accepted())
     }
+
+    /// Adds offered marks to a row in use.
+    fn fill(&self, rows: &mut [u64], row: usize, offered: Pair) -> Result<Answer, Answer> {
+        let &(yes, no) = self.rows.get(row).ok_or(Answer::refusal(32, 0))?;
+        self.check_offered(offered)?;
+        if yes & offered.1 != 0 || no & offered.0 != 0 {
+            return Err(Answer::refusal(33, 0));
+        }
+        let filled = (yes | offered.0, no | offered.1);
+        if contradicted(&[filled], &self.rules).is_some() {
+            return Err(Answer::refusal(11, 0));
+        }
+        (rows[2 * row], rows[2 * row + 1]) = filled;
+        Ok(Answer::accepted())
+    }
 }
 
 fn settle(attempt: impl FnOnce() -> Result<Answer, Answer>) -> Answer {
@@ -224,6 +240,10 @@ pub fn file(record: &mut Record, rows: &mut [u64], list: &[u64], background: &[u
     settle(|| check_session(record, &Lent { rows, list, background }, &[])?.file(record, rows, offered))
 }
 
+pub fn fill(record: &Record, rows: &mut [u64], list: &[u64], background: &[u64], row: usize, offered: Pair) -> Answer {
+    settle(|| check_session(record, &Lent { rows, list, background }, &[])?.fill(rows, row, offered))
+}
+
 /// The test and the filing in turn.
 pub fn no(record: &mut Record, rows: &mut [u64], list: &[u64], background: &[u64], offered: Pair) -> Answer {
     settle(|| {
@@ -261,10 +281,10 @@ pub fn replay(
     answers: &mut [u64],
 ) -> Answer {
     let calls = calls.chunks_exact(CALL_WORDS);
-    if answers.len() / CALL_WORDS < calls.len() {
+    if answers.len() / ANSWER_WORDS < calls.len() {
         return Answer::refusal(3, 0);
     }
-    for (call, written) in calls.zip(answers.chunks_exact_mut(CALL_WORDS)) {
+    for (call, written) in calls.zip(answers.chunks_exact_mut(ANSWER_WORDS)) {
         let pair = (call[1], call[2]);
         let answer = match call[0] {
             0 => step(record, rows, list, background),
@@ -274,6 +294,7 @@ pub fn replay(
             4 => refuted(record, rows, list, background, pair),
             5 => test(record, rows, list, background, pair),
             6 => file(record, rows, list, background, pair),
+            7 => fill(record, rows, list, background, call[1] as usize, (call[2], call[3])),
             _ => Answer::new(UNKNOWN_KIND, 0, 0),
         };
         written.copy_from_slice(&[answer.code, answer.first, answer.second]);

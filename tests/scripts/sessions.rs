@@ -1,13 +1,15 @@
-//! Scripts of session calls: interviews with truthful and with random replies and filings, damaged records and words, logs.
+//! Scripts of session calls: interviews with truthful and with random replies, filings and fillings, damaged records and words,
+//! logs.
 
 use crate::Tally;
 use crate::fenced::{FENCE_ANSWER, FENCE_WORD, Fenced};
 use crate::library::{
-    zundrafl_accept, zundrafl_file_row, zundrafl_follows, zundrafl_open_and_replay, zundrafl_open_session,
-    zundrafl_refuted, zundrafl_reject, zundrafl_replay, zundrafl_step, zundrafl_test_row,
+    zundrafl_accept, zundrafl_file_row, zundrafl_fill_row, zundrafl_follows, zundrafl_open_and_replay,
+    zundrafl_open_session, zundrafl_refuted, zundrafl_reject, zundrafl_replay, zundrafl_step, zundrafl_test_row,
 };
 use crate::machine::{
-    self, ASKED, Answer, CALL_WORDS, FINISHED, MAX_ROW_WORDS, MAX_RULE_WORDS, REFUTED, REFUTES, Record, UNREFUTED,
+    self, ACCEPTED, ANSWER_WORDS, ASKED, Answer, CALL_WORDS, FINISHED, MAX_ROW_WORDS, MAX_RULE_WORDS, REFUTED, REFUTES,
+    Record, UNREFUTED,
 };
 use crate::random::Random;
 use crate::sets::{self, Pair};
@@ -21,28 +23,48 @@ pub const KINDS: &[(&str, &[u64])] = &[
     ("no", &[1, 2, 3, 4, 5, 6, 7, 8, 9, 10, 11, 12, 103]),
     ("test", &[1, 2, 3, 4, 5, 6, 7, 8, 9, 10, 108]),
     ("filing", &[1, 2, 3, 4, 5, 6, 7, 9, 11, 12, 103]),
+    ("filling", &[1, 2, 3, 4, 5, 6, 7, 9, 11, 32, 33, 103]),
     ("follows", &[1, 2, 3, 4, 5, 6, 7, 104]),
     ("refuted", &[1, 2, 3, 4, 5, 6, 7, 105, 106]),
     ("replay", &[3, 103]),
     ("open and replay", &[1, 2, 3, 4, 5, 6, 103]),
-    ("logged", &[1, 2, 3, 4, 5, 6, 7, 8, 9, 10, 11, 12, 100, 101, 102, 103, 104, 105, 106, 107, 108]),
+    ("logged", &[1, 2, 3, 4, 5, 6, 7, 8, 9, 10, 11, 12, 32, 33, 100, 101, 102, 103, 104, 105, 106, 107, 108]),
 ];
 
 /// The filings that come through checks 1 to 7, counted again by whether a question stands, none does, or the current set is
-/// M; and once more those after a finished interview, and the rules asked about behind them.
+/// M; and once more those after a finished interview, and the rules asked about behind them and behind late fillings.
 pub const FILED: &[(&str, &[u64])] = &[
-    (FILED_ASKED, &[9, 11, 12, 103]),
-    (FILED_UNASKED, &[9, 11, 12, 103]),
-    (FILED_AT_M, &[9, 11, 12, 103]),
+    (FILED_WHEN[0], &[9, 11, 12, 103]),
+    (FILED_WHEN[1], &[9, 11, 12, 103]),
+    (FILED_WHEN[2], &[9, 11, 12, 103]),
     (FILED_LATE, &[9, 11, 12, 103]),
     (DECIDED_LATE, &[105, 106]),
 ];
 
-const FILED_ASKED: &str = "filed asked";
-const FILED_UNASKED: &str = "filed unasked";
-const FILED_AT_M: &str = "filed at M";
+const FILED_WHEN: [&str; 3] = ["filed asked", "filed unasked", "filed at M"];
 const FILED_LATE: &str = "filed late";
 const DECIDED_LATE: &str = "decided late";
+
+/// The fillings, counted again in the same way. Of those that are taken once more the ones that add no mark, the ones that
+/// change what the next step answers, by its answer then, and in honest interviews the ones of rows of the opening and of
+/// later rows.
+pub const FILLED: &[(&str, &[u64])] = &[
+    (FILLED_WHEN[0], &[9, 11, 32, 33, 103]),
+    (FILLED_WHEN[1], &[9, 11, 32, 33, 103]),
+    (FILLED_WHEN[2], &[9, 11, 32, 33, 103]),
+    (FILLED_LATE, &[9, 11, 32, 33, 103]),
+    (FILLED_NOTHING, &[103]),
+    (FILLED_CHANGE, &[101, 102]),
+    (FILLED_FIRST, &[103]),
+    (FILLED_LATER, &[103]),
+];
+
+const FILLED_WHEN: [&str; 3] = ["filled asked", "filled unasked", "filled at M"];
+const FILLED_LATE: &str = "filled late";
+const FILLED_NOTHING: &str = "nothing filled";
+const FILLED_CHANGE: &str = "step changed";
+const FILLED_FIRST: &str = "opened row";
+const FILLED_LATER: &str = "later row";
 
 /// The calls that the marks as written would answer otherwise, counted again: steps and yeses by their question, nos and tests
 /// by whether the row refutes it, rules by the first row that refutes them. Of the nos and the tests once more those whose row
@@ -87,6 +109,7 @@ enum Call {
     No(Pair),
     Test(Pair),
     File(Pair),
+    Fill(usize, Pair),
     Follows(Pair),
     Refuted(Pair),
     Replay { calls: Vec<u64>, answers: Vec<u64> },
@@ -113,6 +136,7 @@ impl Call {
             Call::No(_) => "no",
             Call::Test(_) => "test",
             Call::File(_) => "filing",
+            Call::Fill(..) => "filling",
             Call::Follows(_) => "follows",
             Call::Refuted(_) => "refuted",
             Call::Replay { .. } => "replay",
@@ -136,6 +160,7 @@ impl Call {
             Call::No(pair) | Call::Test(pair) | Call::File(pair) | Call::Follows(pair) | Call::Refuted(pair) => {
                 format!("{kind} {:#x} {:#x}", pair.0, pair.1)
             }
+            Call::Fill(row, marks) => format!("{kind} of row {row:#x}, {:#x} {:#x}", marks.0, marks.1),
             Call::Replay { calls, answers } => format!("{kind}\n  log {}\n  answers {}", hex(calls), hex(answers)),
             Call::OpenAndReplay { n, used, calls, answers } => {
                 let (calls, answers) = (hex(calls), hex(answers));
@@ -173,6 +198,7 @@ fn by_model(state: &State, call: &Call) -> Outcome {
         Call::No(row) => machine::no(record, rows, list, background, row),
         Call::Test(row) => machine::test(record, rows, list, background, row),
         Call::File(row) => machine::file(record, rows, list, background, row),
+        Call::Fill(row, marks) => machine::fill(record, rows, list, background, row, marks),
         Call::Follows(rule) => machine::follows(record, rows, list, background, rule),
         Call::Refuted(rule) => machine::refuted(record, rows, list, background, rule),
         Call::Replay { .. } => machine::replay(record, rows, list, background, &calls, &mut answers),
@@ -202,6 +228,7 @@ fn by_library(state: &State, call: &Call) -> Outcome {
             Call::No((yes, no)) => zundrafl_reject(s, r, r_len, l, l_len, b, b_len, yes, no, a),
             Call::Test((yes, no)) => zundrafl_test_row(s, r, r_len, l, l_len, b, b_len, yes, no, a),
             Call::File((yes, no)) => zundrafl_file_row(s, r, r_len, l, l_len, b, b_len, yes, no, a),
+            Call::Fill(row, (yes, no)) => zundrafl_fill_row(s, r, r_len, l, l_len, b, b_len, row, yes, no, a),
             Call::Follows((premise, conclusion)) => {
                 zundrafl_follows(s, r, r_len, l, l_len, b, b_len, premise, conclusion, a)
             }
@@ -262,13 +289,20 @@ fn in_force(state: &State) -> Vec<Pair> {
     [pairs(&state.background, usize::MAX), pairs(&state.list, state.record.rules)].concat()
 }
 
-/// The marked cases of implied marks, each in the current set {0} with one row in use: n, the background rule, the row, a
-/// reply or a test, and the number that it is refused with, at place 0.
-const MARKED: [(usize, Pair, Pair, Call, u64); 4] = [
+/// The marked cases of implied marks, and the order of a filling's refusals, each in the current set {0} with one row in use
+/// of two: n, the background rule, the row, a reply, a test or a filling, and the number that it is refused with, at place 0.
+const MARKED: [(usize, Pair, Pair, Call, u64); 11] = [
     (3, (0b011, 0b100), (0b001, 0b100), Call::Yes, 8),
     (3, (0b011, 0b100), (0b001, 0b100), Call::No((0b001, 0b010)), 8),
     (3, (0b011, 0b100), (0b001, 0b100), Call::Test((0b001, 0b010)), 8),
     (4, (0b0111, 0b1000), (0b0001, 0b1000), Call::Yes, 11),
+    (3, (0b011, 0b100), (0b001, 0b100), Call::Fill(1, (0b1000, 0b001)), 32),
+    (3, (0b011, 0b100), (0b001, 0b100), Call::Fill(1 << 63, (0, 0)), 32),
+    (3, (0b011, 0b100), (0b001, 0b100), Call::Fill(0, (0b1000, 0b001)), 9),
+    (3, (0b011, 0b100), (0b001, 0b100), Call::Fill(0, (0b110, 0b010)), 9),
+    (3, (0b011, 0b100), (0b001, 0b100), Call::Fill(0, (0b010, 0b001)), 33),
+    (3, (0b011, 0b100), (0b001, 0b100), Call::Fill(0, (0b110, 0)), 33),
+    (3, (0b011, 0b100), (0b001, 0b100), Call::Fill(0, (0b010, 0)), 11),
 ];
 
 pub fn check_marked() -> Result<(), String> {
@@ -293,10 +327,10 @@ struct Script<'a> {
     random: Random,
     tally: &'a mut Tally,
     state: State,
-    /// The complete table that truthful replies and filings come from.
+    /// The complete table that truthful replies, filings and fillings come from.
     truth: Vec<Pair>,
-    /// The session comes from an accepted opening.
-    opened: bool,
+    /// The rows of the accepted opening that the session comes from.
+    opened: Option<usize>,
     /// The calls before, for the report of a failure.
     played: Vec<(Call, Answer)>,
 }
@@ -305,7 +339,7 @@ pub fn play(mut random: Random, tally: &mut Tally) -> Result<(), String> {
     let record =
         Record { n: random.below(99), rows: random.below(99), rules: random.below(99), current: random.word() };
     let state = State { record, rows: vec![], list: vec![], background: vec![] };
-    let mut script = Script { random, tally, state, truth: vec![], opened: false, played: vec![] };
+    let mut script = Script { random, tally, state, truth: vec![], opened: None, played: vec![] };
     match script.random.below(5) {
         0 => {
             script.make_soup();
@@ -324,7 +358,7 @@ pub fn play(mut random: Random, tally: &mut Tally) -> Result<(), String> {
             let call = script.make_start();
             script.call_damaged(call.clone())?;
             script.state = script.call(script.state.clone(), call)?.state;
-            script.opened = true;
+            script.opened = Some(script.state.record.rows);
             script.drive(MAX_CALLS, noise, honest)
         }
     }
@@ -498,11 +532,12 @@ impl Script<'_> {
             }
         }
         self.tally.add(call.kind(), expected.answer.code);
-        self.tally_filing(&state, &call, &expected.answer);
+        self.tally_when(&state, &call, &expected.answer);
+        self.tally_filled(&state, &call, &expected);
         self.tally_implied(&state, &call, &expected.answer);
         if matches!(call, Call::Replay { .. }) && expected.answer == Answer::accepted() {
             let count = expected.calls.len() / CALL_WORDS;
-            for answer in expected.answers.chunks_exact(CALL_WORDS).take(count) {
+            for answer in expected.answers.chunks_exact(ANSWER_WORDS).take(count) {
                 self.tally.add("logged", answer[0]);
             }
         }
@@ -510,17 +545,36 @@ impl Script<'_> {
         Ok(expected)
     }
 
-    /// Counts a filing again by what stands.
-    fn tally_filing(&mut self, state: &State, call: &Call, answer: &Answer) {
-        if !matches!(call, Call::File(_)) || answer.code < 9 {
+    /// Counts a filing or a filling again by what stands.
+    fn tally_when(&mut self, state: &State, call: &Call, answer: &Answer) {
+        let [asked, unasked, at_m] = match call {
+            Call::File(_) => FILED_WHEN,
+            Call::Fill(..) => FILLED_WHEN,
+            _ => return,
+        };
+        if answer.code < 9 {
             return;
         }
         let kind = match standing(state) {
-            (current, _) if current == sets::all(state.record.n) => FILED_AT_M,
-            (_, 0) => FILED_UNASKED,
-            _ => FILED_ASKED,
+            (current, _) if current == sets::all(state.record.n) => at_m,
+            (_, 0) => unasked,
+            _ => asked,
         };
         self.tally.add(kind, answer.code);
+    }
+
+    /// Counts an accepted filling again by what it does.
+    fn tally_filled(&mut self, state: &State, call: &Call, outcome: &Outcome) {
+        if !matches!(call, Call::Fill(..)) || outcome.answer.code != ACCEPTED {
+            return;
+        }
+        if outcome.state == *state {
+            self.tally.add(FILLED_NOTHING, ACCEPTED);
+        }
+        let [before, after] = [state, &outcome.state].map(|state| by_model(state, &Call::Step).answer);
+        if after != before {
+            self.tally.add(FILLED_CHANGE, after.code);
+        }
     }
 
     /// Counts an answer again if the marks as written would not give it.
@@ -579,7 +633,8 @@ impl Script<'_> {
         )
     }
 
-    /// Steps, truthful replies and filings to the end, one call in `noise` another one. Honest scripts forget what those change.
+    /// Steps, truthful replies, filings and fillings to the end, one call in `noise` another one. Honest scripts forget what
+    /// those change.
     fn drive(&mut self, calls: usize, noise: usize, honest: bool) -> Result<(), String> {
         for _ in 0..calls {
             if self.chance(noise) {
@@ -588,18 +643,27 @@ impl Script<'_> {
             }
             if self.chance(10) {
                 if let Some(row) = self.truthful_row() {
-                    self.file(row, honest)?;
+                    self.keep(Call::File(row), honest)?;
                 }
                 // Another row, which is not kept.
                 let row = self.any_filed(&self.state.clone());
                 self.call(self.state.clone(), Call::File(row))?;
                 continue;
             }
+            if self.chance(10) {
+                if let Some(filling) = self.truthful_filling(&self.state.clone()) {
+                    self.keep(filling, honest)?;
+                }
+                // Another filling, which is not kept.
+                let filling = self.any_filling(&self.state.clone());
+                self.call(self.state.clone(), filling)?;
+                continue;
+            }
             let stepped = self.call(self.state.clone(), Call::Step)?;
             self.state = stepped.state;
             if stepped.answer.code == FINISHED {
-                if self.opened {
-                    self.file_late(honest)?;
+                if self.opened.is_some() {
+                    self.go_on(honest)?;
                 }
                 for _ in 0..3 {
                     self.disturb(honest)?;
@@ -631,33 +695,52 @@ impl Script<'_> {
         Some((self.random.subset(yes), self.random.subset(no)))
     }
 
-    /// Files a row and keeps it. In an honest script it is truthful, and contradicts nothing.
-    fn file(&mut self, row: Pair, honest: bool) -> Result<u64, String> {
-        let call = Call::File(row);
+    /// Some of the marks of a row of the complete table for a row in use that it may be, if there are such rows.
+    fn truthful_filling(&mut self, state: &State) -> Option<Call> {
+        let rows = pairs(&state.rows, state.record.rows);
+        let row = self.random.below(rows.len().max(1));
+        let &(yes, no) = rows.get(row)?;
+        let fits = |truth: &&Pair| yes & !truth.0 == 0 && no & !truth.1 == 0;
+        let fitting: Vec<Pair> = self.truth.iter().filter(fits).copied().collect();
+        let &(yes, no) = fitting.get(self.random.below(fitting.len().max(1)))?;
+        Some(Call::Fill(row, (self.random.subset(yes), self.random.subset(no))))
+    }
+
+    /// Makes a filing or a filling and keeps what it leaves. In an honest script it is truthful, and refused for want of a
+    /// place alone.
+    fn keep(&mut self, call: Call, honest: bool) -> Result<u64, String> {
         let Outcome { answer, state, .. } = self.call(self.state.clone(), call.clone())?;
-        if honest && answer.code == 11 {
-            return Err(format!("a truthful row contradicts:\n{}\n{}", call.show(), show_state(&state)));
+        if honest && !matches!(answer.code, 12 | ACCEPTED) {
+            return Err(format!("refused, and truthful:\n{}\n{}", call.show(), show_state(&state)));
+        }
+        if let (true, Some(opened), Call::Fill(row, _)) = (honest, self.opened, &call) {
+            self.tally.add(if *row < opened { FILLED_FIRST } else { FILLED_LATER }, answer.code);
         }
         self.state = state;
         Ok(answer.code)
     }
 
-    /// Rows that turn up after a finished interview. It stays finished, and its list decides every rule with them as well.
-    fn file_late(&mut self, honest: bool) -> Result<(), String> {
+    /// Rows that turn up, and marks that become known, after a finished interview. It stays finished, and its list decides every
+    /// rule with them as well.
+    fn go_on(&mut self, honest: bool) -> Result<(), String> {
         self.ask_rules()?;
-        for _ in 0..1 + self.random.below(3) {
-            let row = match honest || self.chance(2) {
-                true => self.truthful_row(),
-                false => Some(self.any_filed(&self.state.clone())),
+        for _ in 0..2 + self.random.below(5) {
+            let state = self.state.clone();
+            let (truthful, late) = (honest || self.chance(3), [FILED_LATE, FILLED_LATE][self.random.below(2)]);
+            let call = match (late, truthful) {
+                (FILED_LATE, true) => self.truthful_row().map(Call::File),
+                (FILED_LATE, false) => Some(Call::File(self.any_filed(&state))),
+                (_, true) => self.truthful_filling(&state),
+                (_, false) => Some(self.any_filling(&state)),
             };
-            if let Some(row) = row {
-                let code = self.file(row, honest)?;
-                self.tally.add(FILED_LATE, code);
+            if let Some(call) = call {
+                let code = self.keep(call, honest)?;
+                self.tally.add(late, code);
             }
         }
         let stepped = self.call(self.state.clone(), Call::Step)?;
         if stepped.answer.code != FINISHED {
-            return Err(format!("finished no more after a filing:\n{}", show_state(&self.state)));
+            return Err(format!("finished no more:\n{}", show_state(&self.state)));
         }
         for code in self.ask_rules()? {
             self.tally.add(DECIDED_LATE, code);
@@ -744,7 +827,7 @@ impl Script<'_> {
     }
 
     fn any_call(&mut self, state: &State) -> Call {
-        match self.random.below(26) {
+        match self.random.below(29) {
             0 => Call::Open { n: state.record.n, used: state.record.rows },
             1 | 2 => Call::Step,
             3 | 4 => Call::Yes,
@@ -754,7 +837,8 @@ impl Script<'_> {
             15 => self.any_replay(state),
             16 | 17 => self.any_opening_with_replay(state),
             18..22 => Call::Test(self.any_row(state)),
-            _ => Call::File(self.any_filed(state)),
+            22..26 => Call::File(self.any_filed(state)),
+            _ => self.any_filling(state),
         }
     }
 
@@ -778,6 +862,64 @@ impl Script<'_> {
                 let yes = premise | self.random.subset(all & !conclusion);
                 (yes, self.random.member(conclusion & !yes) | self.random.subset(all & !yes))
             }
+        }
+    }
+
+    /// Marks for a row in use or for none: such as the row has, that fit, that contradict a rule in force, or any; often with a
+    /// mark reversed or a fault.
+    fn any_filling(&mut self, state: &State) -> Call {
+        let all = sets::all(state.record.n);
+        let (rows, rules) = (pairs(&state.rows, state.record.rows), in_force(state));
+        let row = self.any_row_number(rows.len(), state.rows.len() / 2);
+        let &(yes, no) = rows.get(row).or(rows.last()).unwrap_or(&(0, 0));
+        let (mut more, mut lacking) = match self.random.below(10) {
+            0 => (yes, no),
+            1 => (self.random.subset(yes), self.random.subset(no)),
+            2 => {
+                let mark = self.random.member(all & !yes & !no);
+                if self.chance(2) { (mark, 0) } else { (0, mark) }
+            }
+            3 | 4 => {
+                // Contradicts nothing.
+                let some = sets::closure(&rules, yes | self.random.subset(all & !no));
+                let had = if some & no == 0 { some } else { sets::closure(&rules, yes) };
+                (self.random.subset(had), self.random.subset(all & !had))
+            }
+            5..8 => {
+                // Contradicts a rule in force, with what the row has.
+                let more = self.any_in_force(state).0 & !no;
+                (more, self.random.member(sets::closure(&rules, yes | more) & !yes & !more))
+            }
+            8 => {
+                let more = self.random.subset(all & !no);
+                (more, self.random.subset(all & !yes & !more))
+            }
+            _ => self.any_filed(state),
+        };
+        match self.random.below(12) {
+            0 => more |= self.random.member(no),
+            1 => lacking |= self.random.member(yes),
+            2 => lacking |= self.random.member(more),
+            3 => more |= self.random.member(!all),
+            4 => lacking |= self.random.member(!all),
+            _ => {}
+        }
+        Call::Fill(row, (more, lacking))
+    }
+
+    /// The number of a row in use, or one past those in use, past the places, or so large that its double is none.
+    fn any_row_number(&mut self, used: usize, places: usize) -> usize {
+        let number = self.random.below(used.max(1));
+        match self.random.below(32) {
+            0 => used,
+            1 => used + self.random.below(places + 1),
+            2 => places + self.random.below(3),
+            3 => (1 << 63) + number,
+            4 => (1 << 63) - 1 - self.random.below(2),
+            5 => usize::MAX - self.random.below(3),
+            6 => (1 << 32) + number,
+            7 => self.random.word() as usize,
+            _ => number,
         }
     }
 
@@ -855,7 +997,7 @@ impl Script<'_> {
         let longest = if self.chance(20) { 300 } else { 40 };
         let count = self.random.below(longest);
         for _ in 0..count {
-            let call = match self.random.below(11) {
+            let call = match self.random.below(14) {
                 0 => Call::Follows(self.any_rule(&state)),
                 1 => Call::Refuted(self.any_rule(&state)),
                 2 => Call::No(self.any_row(&state)),
@@ -864,34 +1006,39 @@ impl Script<'_> {
                 5 => Call::Test(self.any_row(&state)),
                 6 => Call::File(self.any_filed(&state)),
                 7 => self.truthful_row().map_or(Call::Step, Call::File),
+                8 | 9 => self.any_filling(&state),
+                10 => self.truthful_filling(&state).unwrap_or(Call::Step),
                 _ => match by_model(&state, &Call::Step).answer {
                     Answer { code: ASKED, first, second } => self.truthful(&state, (first, second)),
                     _ => Call::Step,
                 },
             };
-            let rest = (self.random.word(), self.random.word());
-            let (kind, pair) = match call {
-                Call::Yes => (1, rest),
-                Call::No(pair) => (2, pair),
-                Call::Follows(pair) => (3, pair),
-                Call::Refuted(pair) => (4, pair),
-                Call::Test(pair) => (5, pair),
-                Call::File(pair) => (6, pair),
-                _ => (0, rest),
+            // Arguments that a kind does not use are anything.
+            let [first, second, third] = [self.random.word(), self.random.word(), self.random.word()];
+            let (kind, arguments) = match call {
+                Call::Yes => (1, [first, second, third]),
+                Call::No((yes, no)) => (2, [yes, no, third]),
+                Call::Follows((premise, conclusion)) => (3, [premise, conclusion, third]),
+                Call::Refuted((premise, conclusion)) => (4, [premise, conclusion, third]),
+                Call::Test((yes, no)) => (5, [yes, no, third]),
+                Call::File((yes, no)) => (6, [yes, no, third]),
+                Call::Fill(row, (yes, no)) => (7, [row as u64, yes, no]),
+                _ => (0, [first, second, third]),
             };
             if self.chance(12) {
-                calls.extend([7 + self.random.word() % 3, pair.0, pair.1]);
+                calls.push(8 + self.random.word() % 3);
             } else if self.chance(40) {
-                calls.extend([kind | 1 << 32, pair.0, pair.1]);
+                calls.push(kind | 1 << 32);
             } else {
-                calls.extend([kind, pair.0, pair.1]);
+                calls.push(kind);
                 state = by_model(&state, &call).state;
             }
+            calls.extend(arguments);
         }
         let answers = match self.random.below(4) {
-            0 => (CALL_WORDS * count).saturating_sub(1 + self.random.below(4)),
-            1 => CALL_WORDS * count,
-            _ => CALL_WORDS * count + self.random.below(5),
+            0 => (ANSWER_WORDS * count).saturating_sub(1 + self.random.below(4)),
+            1 => ANSWER_WORDS * count,
+            _ => ANSWER_WORDS * count + self.random.below(5),
         };
         let trailing = self.random.below(CALL_WORDS);
         calls.extend(self.random.words(trailing));

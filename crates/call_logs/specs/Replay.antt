@@ -1,4 +1,4 @@
--- Logs of an interview: calls as three words each (kind, two arguments), answers as three words each (code, two values), and
+-- Logs of an interview: calls as four words each (kind, three arguments), answers as three words each (code, two values), and
 -- what the plain machine makes of a log. An unknown kind gets a code of its own and changes nothing.
 use mathlib.Core.Path.{_≡_}
 use mathlib.Core.Bool.{Bool, not}
@@ -23,7 +23,7 @@ pub mod Loop
 -- a log: the first n calls of a slice of words
 unfoldable pub callsOf : ℕ → List ℕ → List (Option Call)
 callsOf zero ws = []
-callsOf (suc n) ws = callOf (getD ws 0 0) (getD ws 1 0) (getD ws 2 0) ∷ callsOf n (drop 3 ws)
+callsOf (suc n) ws = callOf (getD ws 0 0) (getD ws 1 0) (getD ws 2 0) (getD ws 3 0) ∷ callsOf n (drop 4 ws)
 
 -- one call of a log: its answer, and the state after it
 abbrev pub replayCode : State → Option Call → Coded
@@ -68,7 +68,7 @@ logWords rows list answers = record { rows = rows; list = list; answers = answer
 
 -- the log of all whole calls in the words
 abbrev pub logOf : List ℕ → List (Option Call)
-logOf calls = callsOf (length calls / 3) calls
+logOf calls = callsOf (length calls / 4) calls
 
 -- whether a log was replayed, in three words
 abbrev pub codeOfLog : Log → Coded
@@ -80,13 +80,13 @@ module _ (background calls : List ℕ) (s : Session) (before : LogWords) (s′ :
   -- other, and every word past those in use is as it was lent
   pub record AllMade : Type 0 where
     pub holds : stateOf s′ (after .rows) (after .list) background ≡ run (stateOf s (before .rows) (before .list) background) (known (logOf calls))
-    pub answers : after .answers ≡ answersOf (stateOf s (before .rows) (before .list) background) (logOf calls) ++ drop (length calls / 3 * 3) (before .answers)
+    pub answers : after .answers ≡ answersOf (stateOf s (before .rows) (before .list) background) (logOf calls) ++ drop (length calls / 4 * 3) (before .answers)
     pub rows : PastKept (s .rows) (s′ .rows) (before .rows) (after .rows)
     pub list : PastKept (s .rules) (s′ .rules) (before .list) (after .list)
 
   -- nothing was done, as the answers have no room for all calls
   pub record NoneMade : Type 0 where
-    pub short : length (before .answers) / 3 < length calls / 3
+    pub short : length (before .answers) / 3 < length calls / 4
     pub same-record : s′ ≡ s
     pub same-words : after ≡ before
 

@@ -37,7 +37,7 @@ pub fn replay(
 ) -> Replayed
     ensures { λ r. ⌜ Replays session rows list background calls answers (r .log) (r .session) ⌝ }
 {
-    let count = calls.len() / 3;
+    let count = calls.len() / 4;
     if answers.len() / 3 < count {
         return Replayed {
             log: Log::Short,
@@ -47,7 +47,7 @@ pub fn replay(
     let mut current = session;
     let mut i = 0;
     while i < count {
-        let at = i * 3;
+        let at = i * 4;
         let turn = logged_calls::replay_one(
             current,
             rows,
@@ -56,6 +56,7 @@ pub fn replay(
             calls[at],
             calls[at + 1],
             calls[at + 2],
+            calls[at + 3],
         );
         let answer = turn.answer;
         write_answer(answers, i, answer);

@@ -1,7 +1,7 @@
 // The calls of a session with answers in three words, a code and two values.
 ghost use Rattle.implication.specs.Closure.{implication};
 ghost use Rattle.context.specs.Objects.{object};
-ghost use Rattle.machine.specs.Machine.{step as stepping, accept as accepting, reject as rejecting, follow, refute, test, file};
+ghost use Rattle.machine.specs.Machine.{step as stepping, accept as accepting, reject as rejecting, follow, refute, test, file, fill};
 ghost use Rattle.machine.specs.Calls.{Made, Turned};
 ghost use Rattle.answer_words.specs.Codes.{codeOf};
 ghost use Rattle.coded_calls.specs.Openings.{OpensCoded};
@@ -152,4 +152,20 @@ pub fn file_row(
         session: after,
         changed: made.changed,
     }
+}
+
+// 02's filling: the marks of the offered row are added to the row of this number.
+pub fn fill_row(
+    session: session::Session,
+    rows: &mut [u64],
+    list: &[u64],
+    background: &[u64],
+    row: usize,
+    yes: u64,
+    no: u64,
+) -> answer_words::Answer
+    ensures { λ r. ⌜ Made codeOf (fill row (object yes no)) session rows list background r session ⌝ }
+{
+    let answer = session_late_marks::fill_row(session, rows, list, background, row, yes, no);
+    coded_answers::answer_of_reply(answer)
 }

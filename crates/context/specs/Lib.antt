@@ -3,3 +3,4 @@ pub mod Objects
 pub mod Tables
 pub mod Implied
 pub mod Parts
+pub mod Filling

@@ -2,7 +2,7 @@
 // changed. A call that only reads takes it by `&`.
 ghost use Rattle.implication.specs.Closure.{implication};
 ghost use Rattle.context.specs.Objects.{object};
-ghost use Rattle.machine.specs.Machine.{step as stepping, accept as accepting, reject as rejecting, follow, refute, test, file};
+ghost use Rattle.machine.specs.Machine.{step as stepping, accept as accepting, reject as rejecting, follow, refute, test, file, fill};
 ghost use Rattle.machine.specs.Calls.{PerformsOn};
 ghost use Rattle.session_steps.specs.Answers.{stepAnswer};
 ghost use Rattle.session_queries.specs.Answers.{followingAnswer, refutingAnswer};
@@ -121,4 +121,19 @@ pub fn file_row(
         *session = turn.session;
     }
     turn.answer
+}
+
+// 02's filling: the marks of the offered row are added to the row of this number. The record stays as it is.
+pub fn fill_row(
+    session: &mut session::Session,
+    rows: &mut [u64],
+    list: &[u64],
+    background: &[u64],
+    row: usize,
+    yes: u64,
+    no: u64,
+) -> session_replies::Reply
+    ensures { λ r. ⌜ PerformsOn (fill row (object yes no)) session rows list background (replyAnswer r) ⌝ }
+{
+    session_late_marks::fill_row(*session, rows, list, background, row, yes, no)
 }

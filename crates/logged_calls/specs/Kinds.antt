@@ -1,4 +1,4 @@
--- One call of a log, by its kind and two arguments: which call of the machine it is, and what making it promises. An unknown kind gets a code
+-- One call of a log, by its kind and three arguments: which call of the machine it is, and what making it promises. An unknown kind gets a code
 -- of its own and changes nothing.
 use mathlib.Core.Path.{_≡_}
 use mathlib.Core.Bool.{true, false}
@@ -9,16 +9,17 @@ use denote.Ref.{now}
 use lib.Dec.{eqb}
 use Rattle.implication.specs.Closure.{implication}
 use Rattle.context.specs.Objects.{object}
-use Rattle.machine.specs.Machine.{Call, step, accept, reject, follow, refute, test, file}
+use Rattle.machine.specs.Machine.{Call, step, accept, reject, follow, refute, test, file, fill}
 use Rattle.machine.specs.Calls.{Words, MadeFrom}
 use Rattle.session.specs.declared.Session.{Session}
 use Rattle.answer_words.specs.Codes.{coded, codeOf}
 use Rattle.answer_words.specs.declared.Answer.{Answer as Coded}
 pub mod Laws
 
--- the kinds: 0 step, 1 yes, 2 no, 3 follows, 4 refuted, 5 test, 6 filing
-unfoldable pub callOf : ℕ → ℕ → ℕ → Option Call
-callOf k a b =
+-- the kinds: 0 step, 1 yes, 2 no, 3 follows, 4 refuted, 5 test, 6 filing, 7 filling (row number, yes marks, no marks); an argument that a kind does not use may be
+-- any word
+unfoldable pub callOf : ℕ → ℕ → ℕ → ℕ → Option Call
+callOf k a b c =
     elim (eqb k 0) [
       | true ↦ some step
       | false ↦ elim (eqb k 1) [
@@ -31,7 +32,10 @@ callOf k a b =
               | true ↦ some (refute (implication a b))
               | false ↦ elim (eqb k 5) [
                 | true ↦ some (test (object a b))
-                | false ↦ elim (eqb k 6) [ true ↦ some (file (object a b)) | false ↦ none ]
+                | false ↦ elim (eqb k 6) [
+                  | true ↦ some (file (object a b))
+                  | false ↦ elim (eqb k 7) [ true ↦ some (fill a (object b c)) | false ↦ none ]
+                ]
               ]
             ]
           ]

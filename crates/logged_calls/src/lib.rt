@@ -1,4 +1,4 @@
-// One call of a log, by its kind and two arguments, with its answer in three words.
+// One call of a log, by its kind and three arguments, with its answer in three words.
 ghost use Rattle.logged_calls.specs.Kinds.{callOf, ReplaysOne};
 
 // The kinds of calls.
@@ -16,6 +16,8 @@ pub const TEST: u64 = 5;
 
 pub const FILE: u64 = 6;
 
+pub const FILL: u64 = 7;
+
 // One call of a log, made through the call of its kind.
 pub fn replay_one(
     session: session::Session,
@@ -25,8 +27,9 @@ pub fn replay_one(
     kind: u64,
     a: u64,
     b: u64,
+    c: u64,
 ) -> coded_calls::Turn
-    ensures { λ r. ⌜ ReplaysOne (callOf kind a b) session rows list background (r .answer) (r .session) ⌝ }
+    ensures { λ r. ⌜ ReplaysOne (callOf kind a b c) session rows list background (r .answer) (r .session) ⌝ }
 {
     if kind == STEP {
         return coded_calls::step(session, rows, list, background);
@@ -60,6 +63,13 @@ pub fn replay_one(
     }
     if kind == FILE {
         return coded_calls::file_row(session, rows, list, background, a, b);
+    }
+    if kind == FILL {
+        return coded_calls::Turn {
+            answer: coded_calls::fill_row(session, rows, list, background, a as usize, b, c),
+            session,
+            changed: false,
+        };
     }
     coded_calls::Turn {
         answer: answer_words::in_words(answer_words::Answer::UNKNOWN, 0, 0),

@@ -1,5 +1,6 @@
 -- How the session record and the lent words hold a state of the plain machine, and what a call of the code promises (01, "What a
--- call commits to"): it is that call of the plain machine, and no lent word changes but the two that an accepted reply or filing writes.
+-- call commits to"): it is that call of the plain machine, and no lent word changes but the two that an accepted reply, filing or filling
+-- writes.
 use mathlib.Core.Path.{_≡_}
 use mathlib.Core.Bool.{Bool, true, false}
 use mathlib.Core.List.{List}
@@ -10,9 +11,10 @@ use lib.ListN.{length, set}
 use Rattle.session.specs.declared.Session.{Session}
 use Rattle.implication.specs.Closure.{implicationsOf, allImplications}
 use Rattle.context.specs.Objects.{objectsOf}
+use Rattle.context.specs.Filling.{joined, objectAt}
 pub use Rattle.context.specs.Parts.{Words}
 use Rattle.machine.specs.Checks.{State, question}
-use Rattle.machine.specs.Machine.{Call, step, accept, reject, follow, refute, test, file, Answer, finished, moved, asked, taken, followed, refuted, unrefuted, refuting, refused, perform, Opening, opening}
+use Rattle.machine.specs.Machine.{Call, step, accept, reject, follow, refute, test, file, fill, Answer, finished, moved, asked, taken, followed, refuted, unrefuted, refuting, refused, perform, Opening, opening}
 pub mod Laws
 
 -- ---- states
@@ -36,7 +38,8 @@ Record = Both (RefT Session) (RefT Session)
 abbrev pub given : Session → Words → Words → Words → State
 given s rows list background = stateOf s (now (rows .entry)) (now (list .entry)) (now (background .entry))
 
--- ---- the lent words after a call: on a refusal as they were, after an accepted reply or filing with the two words of the next place set
+-- ---- the lent words after a call: on a refusal as they were, after an accepted reply or filing with the two words of the next place set, after
+-- an accepted filling with those of its row
 
 abbrev pub putPair : Answer → ℕ → ℕ → ℕ → List ℕ → List ℕ
 putPair finished k a b ws = ws
@@ -49,7 +52,7 @@ putPair unrefuted k a b ws = ws
 putPair refuting k a b ws = ws
 putPair (refused r) k a b ws = ws
 
--- the row words after a call with this answer: a no and a filing write the offered row
+-- the row words after a call with this answer: a no and a filing write the offered row, a filling its row with the offered marks added
 abbrev pub rowsBy : Call → Answer → State → List ℕ → List ℕ
 rowsBy step a s ws = ws
 rowsBy accept a s ws = ws
@@ -58,6 +61,7 @@ rowsBy (follow r) a s ws = ws
 rowsBy (refute r) a s ws = ws
 rowsBy (test o) a s ws = ws
 rowsBy (file o) a s ws = putPair a (length (s .rows)) (o .yes-marks) (o .no-marks) ws
+rowsBy (fill k m) a s ws = putPair a k (joined (objectAt (s .rows) k) m .yes-marks) (joined (objectAt (s .rows) k) m .no-marks) ws
 
 -- the list words after it: a yes writes the question
 abbrev pub listBy : Call → Answer → State → List ℕ → List ℕ
@@ -68,6 +72,7 @@ listBy (follow r) a s ws = ws
 listBy (refute r) a s ws = ws
 listBy (test o) a s ws = ws
 listBy (file o) a s ws = ws
+listBy (fill k m) a s ws = ws
 
 -- after a call of the plain machine
 abbrev pub rowsAfter : Call → State → List ℕ → List ℕ
@@ -90,7 +95,7 @@ abbrev pub Made : {X : Type 0} → (Answer → X) → Call → Session → Words
 Made says c s rows list background x after =
     MadeFrom says c s (now (rows .entry)) (now (list .entry)) (now (background .entry)) x after (now (rows .exit)) (now (list .exit))
 
--- whether an answer says that the record changed: a move, and an accepted reply or filing
+-- whether an answer says that the state changed: a move, and an accepted reply, filing or filling
 abbrev pub changes : Answer → Bool
 changes finished = false
 changes moved = true
@@ -102,7 +107,7 @@ changes unrefuted = false
 changes refuting = false
 changes (refused r) = false
 
--- the same of a call that says besides whether the record changed
+-- the same of a call that gives back a record, and says besides whether it changed; a filling gives none back, as its record stays
 pub record TurnedFrom {X : Type 0} (says : Answer → X) (c : Call) (s : Session) (rows list background : List ℕ) (x : X) (after : Session) (rows′ list′ : List ℕ) (changed : Bool)
     : Type 0 where
   pub made : MadeFrom says c s rows list background x after rows′ list′

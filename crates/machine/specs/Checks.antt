@@ -1,5 +1,5 @@
--- The refusals of document 01, in checking order ("Refusals in checking order"): each check has its number, whether it
--- fails, and the place it names then; the first that fails decides. Everything is decided by computing.
+-- The refusals of document 01, in checking order ("Refusals in checking order"), with those of the calls of document 02: each check has its
+-- number, whether it fails, and the place it names then; the first that fails decides. Everything is decided by computing.
 use mathlib.Core.Bool.{Bool, true, false, not, _||_}
 use mathlib.Core.List.{List, [], _∷_, _++_}
 use mathlib.Core.Option.{Option, none, some}
@@ -14,6 +14,7 @@ use Rattle.attribute_set.specs.Sets.{inside, full, without}
 use Rattle.implication.specs.Closure.{implication, closure}
 use Rattle.context.specs.Places.{lowest, anywhere}
 use Rattle.context.specs.Objects.{Object, refutes, markedTwice, contradicts}
+use Rattle.context.specs.Filling.{joined, reverses, objectAt}
 use Rattle.reach.specs.Reach.{reach}
 pub mod Laws
 
@@ -138,6 +139,16 @@ filingChecks s o =
     check 9 (badRow (s .n) o) 0
     ∷ check 11 (contradicts (force s) o) 0
     ∷ check 12 (leb (s .lent .rows / 2) (length (s .rows))) 0
+    ∷ []
+
+-- a filling of row k with offered marks (02, request 7/13): no row of that number in use; bad marks; a yes that would become a no or the reverse;
+-- a row that contradicts with them
+unfoldable pub fillChecks : State → ℕ → Object → List Check
+fillChecks s k m =
+    check 32 (leb (length (s .rows)) k) 0
+    ∷ check 9 (badRow (s .n) m) 0
+    ∷ check 33 (reverses (objectAt (s .rows) k) m) 0
+    ∷ check 11 (contradicts (force s) (joined (objectAt (s .rows) k) m)) 0
     ∷ []
 
 -- a no: the test, then the filing

@@ -14,7 +14,7 @@ use Rattle.implication.specs.Closure.{follows}
 use Rattle.context.specs.Objects.{Object, refutes}
 use Rattle.machine.specs.Checks.{Lent, State, force}
 use Rattle.machine.specs.Machine.{Call, step, finished, perform, run, opening, opened}
-use Rattle.machine.specs.Replies.{agreedIn, offeredIn, replies, Truthful}
+use Rattle.machine.specs.Replies.{agreedIn, offeredIn, filledBy, replies, Truthful}
 pub mod Invariant
 pub mod Theorem
 
@@ -40,9 +40,9 @@ pub record AfterCalls (n : ℕ) (lent : Lent) (background : List (Implication �
   pub same-n : run start calls .n ≡ n
   pub same-lent : run start calls .lent ≡ lent
   pub same-background : run start calls .background ≡ background
-  -- 2. the rows are those of the opening, then the offered rows of the accepted no calls and filings in order;
-  -- the list is the questions of the accepted yes calls in order
-  pub all-rows : run start calls .rows ≡ rows ++ offeredIn (replies start calls)
+  -- 2. the rows are those of the opening, then the offered rows of the accepted no calls and filings in order, each with the marks of the
+  -- accepted fillings of its number; the list is the questions of the accepted yes calls in order
+  pub all-rows : run start calls .rows ≡ filledBy (replies start calls) (rows ++ offeredIn (replies start calls))
   pub all-list : run start calls .list ≡ agreedIn (replies start calls)
   -- 3. decided: once finished, an implication over M follows from background and list just if no row refutes it
   pub decided : Finished (run start calls) → (r : Implication ℕ) → OverM n r

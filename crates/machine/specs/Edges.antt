@@ -2,14 +2,14 @@
 -- one. `Edges.Proof` proves the whole table by computing the definitions.
 use mathlib.Core.Path.{_≡_}
 use mathlib.Core.List.{List, [], _∷_}
-use Prim.Native.Nat.{ℕ}
+use Prim.Native.Nat.{ℕ, _-_, _^_}
 use lib.ListN.{replicate}
 use Rattle.theory.specs.Implications.{Implication}
 use Rattle.implication.specs.Closure.{implication}
 use Rattle.context.specs.Objects.{Object, object}
 use Rattle.session.specs.Refusals.{refusal}
 use Rattle.machine.specs.Checks.{Lent, State}
-use Rattle.machine.specs.Machine.{step, accept, reject, follow, refute, test, file, finished, asked, taken, refuted, refuting, refused, turn, moveTo, agreeing, afterYes, perform, rejected, opened, opening, openingState}
+use Rattle.machine.specs.Machine.{step, accept, reject, follow, refute, test, file, fill, finished, asked, taken, refuted, refuting, refused, turn, moveTo, agreeing, afterYes, perform, rejected, opened, opening, openingState}
 pub mod Proof
 
 -- lent lengths: row words, list words, background words
@@ -125,3 +125,29 @@ pub record Edges : Type 0 where
   pub file-nine-twice : perform (moveTo (over (lent 4 2 2) []) 7) (file (object 3 2)) .answer ≡ refused (refusal 9 0)
   pub file-eleven : perform (over (lent 2 2 2) (object 2 0 ∷ [])) (file (object 3 4)) .answer ≡ refused (refusal 11 0)
   pub file-twelve : perform (over (lent 2 2 2) (object 2 0 ∷ [])) (file (object 0 2)) .answer ≡ refused (refusal 12 0)
+  -- a filling of the second of three rows: its marks are added, the other rows and the set stay; marks that are known may be offered again, all of
+  -- them too
+  pub filled : perform (over (lent 6 2 2) (object 2 0 ∷ object 0 4 ∷ object 1 0 ∷ [])) (fill 1 (object 1 2))
+      ≡ turn taken (over (lent 6 2 2) (object 2 0 ∷ object 1 6 ∷ object 1 0 ∷ []))
+  pub fill-again : perform (over (lent 6 2 2) (object 2 0 ∷ object 1 6 ∷ [])) (fill 1 (object 1 2)) ≡ turn taken (over (lent 6 2 2) (object 2 0 ∷ object 1 6 ∷ []))
+  pub fill-nothing : perform (over (lent 6 2 2) (object 1 6 ∷ [])) (fill 0 (object 0 0)) ≡ turn taken (over (lent 6 2 2) (object 1 6 ∷ []))
+  -- of the first row and of the last in use, also where no place is left
+  pub fill-first : perform (over (lent 4 2 2) (object 1 0 ∷ object 2 0 ∷ [])) (fill 0 (object 0 4)) ≡ turn taken (over (lent 4 2 2) (object 1 4 ∷ object 2 0 ∷ []))
+  pub fill-last : perform (over (lent 4 2 2) (object 1 0 ∷ object 2 0 ∷ [])) (fill 1 (object 0 4)) ≡ turn taken (over (lent 4 2 2) (object 1 0 ∷ object 2 4 ∷ []))
+  -- with no question, and at M, where a step still answers Finished
+  pub fill-unasked : perform (over (lent 4 2 2) (object 1 6 ∷ object 0 0 ∷ [])) (fill 1 (object 2 0)) .answer ≡ taken
+  pub fill-at-M : perform (moveTo (over (lent 2 2 2) (object 1 0 ∷ [])) 7) (fill 0 (object 0 4)) ≡ turn taken (moveTo (over (lent 2 2 2) (object 1 4 ∷ [])) 7)
+  -- 32: the number of rows in use, one of a place without a row, the largest word; before 9
+  pub fill-next-number : perform (over (lent 8 2 2) (object 1 0 ∷ object 2 0 ∷ [])) (fill 2 (object 0 4)) .answer ≡ refused (refusal 32 0)
+  pub fill-no-rows : perform (over (lent 8 2 2) []) (fill 0 (object 0 0)) .answer ≡ refused (refusal 32 0)
+  pub fill-largest-number : perform (over (lent 8 2 2) (object 1 0 ∷ [])) (fill (2 ^ 64 - 1) (object 3 2)) .answer ≡ refused (refusal 32 0)
+  -- 9 of the offered marks: an attribute outside M, one marked both ways; before 33
+  pub fill-nine-outside : perform (over (lent 2 2 2) (object 1 0 ∷ [])) (fill 0 (object 8 0)) .answer ≡ refused (refusal 9 0)
+  pub fill-nine-twice : perform (over (lent 2 2 2) (object 1 0 ∷ [])) (fill 0 (object 2 3)) .answer ≡ refused (refusal 9 0)
+  -- 33: a yes would become a no, and a no a yes; before 11
+  pub fill-yes-to-no : perform (over (lent 4 2 2) (object 2 0 ∷ object 1 0 ∷ [])) (fill 1 (object 0 1)) .answer ≡ refused (refusal 33 0)
+  pub fill-no-to-yes : perform (over (lent 4 2 2) (object 2 0 ∷ object 0 1 ∷ [])) (fill 1 (object 1 0)) .answer ≡ refused (refusal 33 0)
+  pub fill-33-before-11 : perform (over (lent 2 2 2) (object 1 4 ∷ [])) (fill 0 (object 2 1)) .answer ≡ refused (refusal 33 0)
+  -- 11: with 1 the row has 2, which it lacks; and a row with 0 and 1 has 2 by what is in force, so that a no to 2 contradicts, and reverses no mark
+  pub fill-eleven : perform (over (lent 2 2 2) (object 1 4 ∷ [])) (fill 0 (object 2 0)) .answer ≡ refused (refusal 11 0)
+  pub fill-eleven-implied : perform (over (lent 2 2 2) (object 3 0 ∷ [])) (fill 0 (object 0 4)) .answer ≡ refused (refusal 11 0)

@@ -1,4 +1,5 @@
--- Document 01's refusals 1 to 12 as facts about a state, a rule asked about, a reply, a test and a filing ("Refusals in checking order").
+-- Document 01's refusals 1 to 12, and 32 and 33 of document 02, as facts about a state, a rule asked about, a reply, a test, a filing and a
+-- filling ("Refusals in checking order").
 -- `Laws` proves that the checks pass just where these hold, and `Kept` that they hold of checks 1 to 7 from an accepted opening on.
 use mathlib.Core.Path.{_≡_}
 use mathlib.Core.Bool.{true}
@@ -10,6 +11,7 @@ use Rattle.attribute_set.specs.Sets.{Sub, Apart, full}
 use Rattle.attribute_set.specs.Words.{words}
 use Rattle.implication.specs.Closure.{closure}
 use Rattle.context.specs.Objects.{Object, refutes}
+use Rattle.context.specs.Filling.{joined, objectAt}
 use Rattle.session.specs.Limits.{mostAttributes, mostObjects, mostImplications}
 use Rattle.machine.specs.Checks.{State, force, question, withQuestion}
 use Rattle.machine.specs.Checks.Laws.{InM, Stands}
@@ -64,6 +66,16 @@ pub record FilingFits (s : State) (o : Object) : Type 0 where
   pub once : Apart (o .yes-marks) (o .no-marks)
   pub consistent : Apart (closure (force s) (o .yes-marks)) (o .no-marks)
   pub place : length (s .rows) < s .lent .rows / 2
+
+-- checks 32, 9, 33 and 11 of a filling: row k is in use, the offered marks are those of a row over M, by written marks none makes a yes a no
+-- or the reverse, and with them row k does not contradict. Whether a mark is known already is not asked, nor whether a question stands.
+pub record FillFits (s : State) (k : ℕ) (m : Object) : Type 0 where
+  pub used : k < length (s .rows)
+  pub inside : InM (s .n) m
+  pub once : Apart (m .yes-marks) (m .no-marks)
+  pub yes-stays : Apart (objectAt (s .rows) k .yes-marks) (m .no-marks)
+  pub no-stays : Apart (objectAt (s .rows) k .no-marks) (m .yes-marks)
+  pub consistent : Apart (closure (force s) (joined (objectAt (s .rows) k) m .yes-marks)) (joined (objectAt (s .rows) k) m .no-marks)
 
 -- checks 8 to 12 of a no: a question stands, the offered row is a row over M that refutes it and does not contradict, and a place is left
 pub record NoFits (s : State) (o : Object) : Type 0 where

@@ -10,8 +10,9 @@ use Rattle.theory.specs.Implications.{Implication}
 use Rattle.implication.specs.Closure.{closure, follows}
 use Rattle.next_set.specs.Next.{next}
 use Rattle.context.specs.Objects.{Object, firstRefuting}
+use Rattle.context.specs.Filling.{filledAt}
 use Rattle.session.specs.declared.Refusal.{Refusal}
-use Rattle.machine.specs.Checks.{Lent, State, Check, firstFailing, sessionChecks, yesChecks, testChecks, filingChecks, noChecks, force, whole, tight, open-question, standing, question}
+use Rattle.machine.specs.Checks.{Lent, State, Check, firstFailing, sessionChecks, yesChecks, testChecks, filingChecks, fillChecks, noChecks, force, whole, tight, open-question, standing, question}
 pub mod Laws
 
 -- the calls of a session, with any arguments
@@ -27,13 +28,15 @@ pub data Call : Type 0 where
   -- 6/13: the test and the filing)
   test : Object → Call
   file : Object → Call
+  -- marks offered at any time, to be added to the row of this number (02, request 7/13: the filling)
+  fill : ℕ → Object → Call
 
 pub data Answer : Type 0 where
   -- of a step
   finished : Answer
   moved : Answer
   asked : Implication ℕ → Answer
-  -- of a reply and of a filing
+  -- of a reply, of a filing and of a filling
   taken : Answer
   -- of the read-only calls: whether it follows; the first row that refutes it, or that none does
   followed : Bool → Answer
@@ -80,6 +83,10 @@ afterYes s = agreeing s (question s)
 abbrev pub afterFiling : State → Object → State
 afterFiling s o = record { n = s .n; lent = s .lent; background = s .background; rows = s .rows ++ (o ∷ []); list = s .list; current = s .current }
 
+-- a filling: row k with the marks added
+abbrev pub afterFill : State → ℕ → Object → State
+afterFill s k m = record { n = s .n; lent = s .lent; background = s .background; rows = filledAt k m (s .rows); list = s .list; current = s .current }
+
 -- ---- what an accepted call does
 
 -- at M: Finished. Where the reach differs: Asked. Else the next set.
@@ -103,6 +110,7 @@ performed s (follow r) = turn (followed (follows (force s) r)) s
 performed s (refute r) = turn (refutedAt (firstRefuting (force s) (s .rows) r) (length (s .rows))) s
 performed s (test o) = turn refuting s
 performed s (file o) = turn taken (afterFiling s o)
+performed s (fill k m) = turn taken (afterFill s k m)
 
 -- ---- a call, with its checks
 
@@ -114,6 +122,7 @@ checksOf s (follow r) = sessionChecks s (r ∷ [])
 checksOf s (refute r) = sessionChecks s (r ∷ [])
 checksOf s (test o) = sessionChecks s [] ++ testChecks s o
 checksOf s (file o) = sessionChecks s [] ++ filingChecks s o
+checksOf s (fill k m) = sessionChecks s [] ++ fillChecks s k m
 
 unfoldable pub perform : State → Call → Turn
 perform s c = elim (firstFailing (checksOf s c)) [ none ↦ performed s c | some r ↦ turn (refused r) s ]

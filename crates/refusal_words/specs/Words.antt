@@ -1,4 +1,4 @@
--- What each refusal number means, and what a person does next: one sentence for each of 01's numbers (the words are not 01's).
+-- What each refusal number means, and what a person does next: one sentence for each number of 01 and 02 (the words are not theirs).
 use mathlib.Core.Bool.{Bool, true, false, _&&_}
 use mathlib.Core.List.{List, [], _∷_, _++_}
 use Prim.Native.Nat.{ℕ, _-_}
@@ -70,6 +70,8 @@ sentences =
     "A mark is unknown, and complete tables are taken only: write X or a dot for it, or ask an expert in an interview." ∷
     "The text is longer than 65,535 bytes or than the output: lend more bytes, or take fewer rows or shorter names." ∷
     "The percentage is above 99: ask for 0 to 99." ∷
+    "No row in use has this number: take one below the number of rows in use." ∷
+    "A yes would become a no, or a no a yes: take the mark out of those offered; a mark once known stays." ∷
     []
     )
 

@@ -93,7 +93,9 @@ A line of marks is missing, has too few or too many, or has a byte other than X,
 Something stands behind the last line of marks: take it away, or correct the counts.
 A mark is unknown, and complete tables are taken only: write X or a dot for it, or ask an expert in an interview.
 The text is longer than 65,535 bytes or than the output: lend more bytes, or take fewer rows or shorter names.
-The percentage is above 99: ask for 0 to 99.",
+The percentage is above 99: ask for 0 to 99.
+No row in use has this number: take one below the number of rows in use.
+A yes would become a no, or a no a yes: take the mark out of those offered; a mark once known stays.",
         number,
     )
 }

@@ -5,15 +5,15 @@ use mathlib.Core.Path.{_≡_}
 use mathlib.Core.Logic.{_↔_}
 use mathlib.Core.Bool.{true, false}
 use mathlib.Core.List.{List, _++_}
-use Prim.Native.Nat.{ℕ, _*_, _/_, _≤_}
-use lib.ListN.{length, drop}
+use Prim.Native.Nat.{ℕ, _+_, _*_, _/_, _≤_, _<_}
+use lib.ListN.{length, getD, drop}
 use Rattle.theory.specs.Lists.{All}
 use Rattle.theory.specs.Implications.{Implication}
 use Rattle.implication.specs.Closure.{implicationsOf, allImplications, follows}
 use Rattle.context.specs.Objects.{Object, objectsOf, refutes}
 use Rattle.machine.specs.Checks.{State}
 use Rattle.machine.specs.Machine.{Call, run, opened}
-use Rattle.machine.specs.Replies.{agreedIn, offeredIn, replies, Truthful}
+use Rattle.machine.specs.Replies.{agreedIn, offeredIn, filledBy, FillsOther, replies, Truthful}
 use Rattle.machine.specs.Demand3.{Finished, OverM, SameConsequences}
 use Rattle.machine.specs.Calls.{stateOf, openingFrom}
 use Rattle.call_logs.specs.Replay.{known, answersOf, logOf, PastKept, logWords, AllMade}
@@ -59,17 +59,23 @@ module _ {n : ℕ} {background : List ℕ} (i : Interview n background) where
   abbrev pub end-list : List (Implication ℕ)
   end-list = implicationsOf (i .end .rules) (i .list-after)
 
+-- row k has the words that it had
+abbrev pub SameRow : ℕ → List ℕ → List ℕ → Type 0
+SameRow k before after = (getD after (k * 2) 0 ≡ getD before (k * 2) 0) × (getD after (k * 2 + 1) 0 ≡ getD before (k * 2 + 1) 0)
+
 pub record Demand3Whole {n : ℕ} {background : List ℕ} (i : Interview n background) : Type 0 where
   -- 1. simulation: record and words hold the plain machine's state; n is the opening's; the answers are the machine's, one after the other; every
-  -- word past those in use is as it was lent
+  -- word past those in use is as it was lent, and so are the words of a row in use at the opening that no accepted filling names
   pub simulated : end-state i ≡ run (opening-state i) (script i)
   pub same-n : i .end .n ≡ n
-  pub answered : i .answers-after ≡ answersOf (opening-state i) (logOf (i .calls)) ++ drop (length (i .calls) / 3 * 3) (i .answers)
+  pub answered : i .answers-after ≡ answersOf (opening-state i) (logOf (i .calls)) ++ drop (length (i .calls) / 4 * 3) (i .answers)
   pub rows-past : PastKept (i .start .rows) (i .end .rows) (i .rows) (i .rows-after)
   pub list-past : PastKept (i .start .rules) (i .end .rules) (i .list) (i .list-after)
-  -- 2. the rows are those in use at the opening, then the offered rows of the accepted no calls and filings in order; the list is
-  -- the questions of the accepted yes calls in order
-  pub all-rows : end-rows i ≡ objectsOf (i .used) (i .rows) ++ offeredIn (replies (opening-state i) (script i))
+  pub rows-kept : (k : ℕ) → k < i .used → All (FillsOther k) (replies (opening-state i) (script i)) → SameRow k (i .rows) (i .rows-after)
+  -- 2. the rows are those in use at the opening, then the offered rows of the accepted no calls and filings in order, each with the marks of
+  -- the accepted fillings of its number; the list is the questions of the accepted yes calls in order
+  pub all-rows : end-rows i
+      ≡ filledBy (replies (opening-state i) (script i)) (objectsOf (i .used) (i .rows) ++ offeredIn (replies (opening-state i) (script i)))
   pub all-list : end-list i ≡ agreedIn (replies (opening-state i) (script i))
   -- 3. decided: if a step now answers Finished, a rule over M follows from background and list just if no row refutes it, by implied marks
   pub decided : Finished (end-state i) → (r : Implication ℕ) → OverM n r

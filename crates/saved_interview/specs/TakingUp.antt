@@ -40,7 +40,7 @@ module _ (n used : ℕ) (background calls : List ℕ) (before : Session) (words 
 
   -- the answers have no room for all calls: 3, and nothing was done
   pub record NoRoom : Type 0 where
-    pub short : length (words .answers) / 3 < length calls / 3
+    pub short : length (words .answers) / 3 < length calls / 4
     pub answer : x ≡ coded 3 0 0
     pub same-record : after ≡ before
     pub same-words : words′ ≡ words

@@ -6,7 +6,7 @@ use mathlib.Core.Option.{Option, none}
 use Prim.Native.Nat.{ℕ, suc, _+_, _*_, _≤_, _<_}
 use lib.ListN.{length, getD, take}
 use Rattle.machine.specs.Checks.{State}
-use Rattle.machine.specs.Machine.{Call, step, accept, reject, follow, refute, test, file, run}
+use Rattle.machine.specs.Machine.{Call, step, accept, reject, follow, refute, test, file, fill, run}
 use Rattle.answer_words.specs.declared.Answer.{Answer as Coded}
 use Rattle.answer_words.specs.Codes.{coded}
 use Rattle.call_logs.specs.Replay.{replayCode, replayAfter, known, logOf}
@@ -40,15 +40,16 @@ module _ {n : ℕ} {background : List ℕ} (i : Interview n background) where
     pub row-places : i .end .rows * 2 ≤ length (i .rows-after)
     pub list-places : i .end .rules * 2 ≤ length (i .list-after)
 
--- the words of a call, and of a list of calls
+-- the words of a call, with 0 for the arguments that its kind does not use, and of a list of calls
 abbrev pub wordsOf : Call → List ℕ → List ℕ
-wordsOf step ws = 0 ∷ 0 ∷ 0 ∷ ws
-wordsOf accept ws = 1 ∷ 0 ∷ 0 ∷ ws
-wordsOf (reject o) ws = 2 ∷ o .yes-marks ∷ o .no-marks ∷ ws
-wordsOf (follow r) ws = 3 ∷ r .premise ∷ r .conclusion ∷ ws
-wordsOf (refute r) ws = 4 ∷ r .premise ∷ r .conclusion ∷ ws
-wordsOf (test o) ws = 5 ∷ o .yes-marks ∷ o .no-marks ∷ ws
-wordsOf (file o) ws = 6 ∷ o .yes-marks ∷ o .no-marks ∷ ws
+wordsOf step ws = 0 ∷ 0 ∷ 0 ∷ 0 ∷ ws
+wordsOf accept ws = 1 ∷ 0 ∷ 0 ∷ 0 ∷ ws
+wordsOf (reject o) ws = 2 ∷ o .yes-marks ∷ o .no-marks ∷ 0 ∷ ws
+wordsOf (follow r) ws = 3 ∷ r .premise ∷ r .conclusion ∷ 0 ∷ ws
+wordsOf (refute r) ws = 4 ∷ r .premise ∷ r .conclusion ∷ 0 ∷ ws
+wordsOf (test o) ws = 5 ∷ o .yes-marks ∷ o .no-marks ∷ 0 ∷ ws
+wordsOf (file o) ws = 6 ∷ o .yes-marks ∷ o .no-marks ∷ 0 ∷ ws
+wordsOf (fill k m) ws = 7 ∷ k ∷ m .yes-marks ∷ m .no-marks ∷ ws
 
 abbrev pub logWordsOf : List Call → List ℕ
 logWordsOf [] = []

@@ -1,15 +1,16 @@
--- Demand 2 for the calls that run. `answer` is what `session_yes::accept`, `session_no::reject` or `session_filing::file_row` answers: its
--- contract says that it is the machine's. It is a refusal with 11 just if no complete table agrees with all rows in use, all rules in force
--- and the reply, or the offered row.
+-- Demand 2 for the calls that run. `answer` is what `session_yes::accept`, `session_no::reject`, `session_filing::file_row` or
+-- `session_late_marks::fill_row` answers: its contract says that it is the machine's. It is a refusal with 11 just if no complete table agrees
+-- with all rows in use, all rules in force and the reply, or the offered row; of a filling, just if none agrees with all rows, the one of its
+-- number filled, and all rules.
 use mathlib.Core.Path.{_≡_, sym, _∙_}
 use mathlib.Core.Logic.{_↔_}
 use mathlib.Core.List.{List}
 use Prim.Native.Nat.{ℕ}
 use Rattle.context.specs.Objects.{Object, object}
 use Rattle.machine.specs.Checks.{State, question}
-use Rattle.machine.specs.Machine.{Call, accept, reject, file, refused, perform}
+use Rattle.machine.specs.Machine.{Call, accept, reject, file, fill, refused, perform}
 use Rattle.machine.specs.Replies.{agreed, offered}
-use Rattle.machine.specs.Demand2.{Refused11, Contradictory, YesUpTo11, NoUpTo11, FilingUpTo11}
+use Rattle.machine.specs.Demand2.{Refused11, Contradictory, ContradictoryFilled, YesUpTo11, NoUpTo11, FilingUpTo11, FillUpTo11}
 use Rattle.machine.specs.Demand2.Theorem.{demand-2}
 use Rattle.machine.specs.Calls.{stateOf}
 use Rattle.session_replies.specs.Answers.{replyAnswer}
@@ -43,3 +44,8 @@ module _ (session : Session) (rows list background : List ℕ) (answer : Reply) 
     pub filing-contradiction : replyAnswer answer ≡ perform before (file row) .answer → FilingUpTo11 before row
         → Says11 answer ↔ Contradictory before (offered row)
     filing-contradiction e up = by-answer (file row) e (demand-2 .filing before row up)
+
+    -- of a filling of row k
+    pub filling-contradiction : (k : ℕ) → replyAnswer answer ≡ perform before (fill k row) .answer → FillUpTo11 before k row
+        → Says11 answer ↔ ContradictoryFilled before k row
+    filling-contradiction k e up = by-answer (fill k row) e (demand-2 .filling before k row up)

@@ -3,4 +3,5 @@
 pub mod Stepping
 pub mod Accepting
 pub mod Rejecting
+pub mod Filling
 pub mod Asking

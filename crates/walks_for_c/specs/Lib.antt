@@ -4,6 +4,7 @@
 pub mod Stepping
 pub mod Accepting
 pub mod Rejecting
+pub mod Filling
 pub mod Replaying
 pub mod OpeningLog
 pub mod Opening

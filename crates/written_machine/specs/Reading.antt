@@ -1,6 +1,6 @@
 -- The plain machine read by written marks: of document 01's machine (`Checks`, `Machine`) each definition that reads what a row has and
--- lacks, with the marks that are written. So the machine was before request 5/13 of document 02, and so the two calls of request 6/13 would
--- have been; checks 1 to 7 never read anything else.
+-- lacks, with the marks that are written. So the machine was before request 5/13 of document 02, and so the calls of requests 6/13 and 7/13
+-- would have been; checks 1 to 7 never read anything else.
 -- `Unchanged` says where it is the machine as it is now.
 use mathlib.Core.Bool.{Bool, true, false, not, _||_}
 use mathlib.Core.List.{List, [], _∷_, _++_}
@@ -14,8 +14,8 @@ use Rattle.implication.specs.Closure.{implication, follows}
 use Rattle.context.specs.Places.{lowest, anywhere}
 use Rattle.context.specs.Objects.{Object, refutesWritten, firstWritten, markedTwice, contradicts}
 use Rattle.written_marks.specs.Written.{reachWritten}
-use Rattle.machine.specs.Checks.{State, force, Standing, whole, tight, open-question, Check, check, firstFailing, strangeObject, sessionChecks, filingChecks}
-use Rattle.machine.specs.Machine.{Call, step, accept, reject, follow, refute, test, file, finished, moved, asked, taken, followed, refuting, refused, Turn, turn, afterMove, agreeing, afterFiling, refutedAt}
+use Rattle.machine.specs.Checks.{State, force, Standing, whole, tight, open-question, Check, check, firstFailing, strangeObject, sessionChecks, filingChecks, fillChecks}
+use Rattle.machine.specs.Machine.{Call, step, accept, reject, follow, refute, test, file, fill, finished, moved, asked, taken, followed, refuting, refused, Turn, turn, afterMove, agreeing, afterFiling, afterFill, refutedAt}
 pub mod Unchanged
 
 -- the reach of the current set
@@ -59,7 +59,7 @@ writtenNo s o =
     ∷ check 12 (leb (s .lent .rows / 2) (length (s .rows))) 0
     ∷ []
 
--- of a test (02, request 6/13) the first three of them; the checks of a filing read nothing else
+-- of a test (02, request 6/13) the first three of them; the checks of a filing and of a filling read nothing else
 abbrev pub writtenTest : State → Object → List Check
 writtenTest s o = take 3 (writtenNo s o)
 
@@ -81,6 +81,7 @@ writtenPerformed s (follow r) = turn (followed (follows (force s) r)) s
 writtenPerformed s (refute r) = turn (refutedAt (firstWritten (s .rows) r) (length (s .rows))) s
 writtenPerformed s (test o) = turn refuting s
 writtenPerformed s (file o) = turn taken (afterFiling s o)
+writtenPerformed s (fill k m) = turn taken (afterFill s k m)
 
 unfoldable pub writtenChecks : State → Call → List Check
 writtenChecks s step = sessionChecks s []
@@ -90,6 +91,7 @@ writtenChecks s (follow r) = sessionChecks s (r ∷ [])
 writtenChecks s (refute r) = sessionChecks s (r ∷ [])
 writtenChecks s (test o) = sessionChecks s [] ++ writtenTest s o
 writtenChecks s (file o) = sessionChecks s [] ++ filingChecks s o
+writtenChecks s (fill k m) = sessionChecks s [] ++ fillChecks s k m
 
 -- a call, with its checks
 unfoldable pub writtenPerform : State → Call → Turn

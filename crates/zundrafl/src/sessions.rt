@@ -1,7 +1,7 @@
 // The calls of a session for C. A call that only reads takes the record by `&`; the others store it where it changed.
 ghost use Rattle.implication.specs.Closure.{implication};
 ghost use Rattle.context.specs.Objects.{object};
-ghost use Rattle.machine.specs.Machine.{step as stepping, accept as accepting, reject as rejecting, follow, refute, test, file};
+ghost use Rattle.machine.specs.Machine.{step as stepping, accept as accepting, reject as rejecting, follow, refute, test, file, fill};
 ghost use Rattle.coded_calls.specs.Openings.{AnswersOn, OpensOn};
 ghost use Rattle.call_logs.specs.Replay.{ReplaysOn};
 ghost use Rattle.saved_interview.specs.TakingUp.{TakesUpOn};
@@ -153,6 +153,23 @@ pub extern "C" fn zundrafl_file_row(
         *session = turn.session;
     }
     *answer = turn.answer;
+}
+
+// 02's filling: the marks of the offered row are added to the row of this number. The record stays as it is.
+#[no_mangle]
+pub extern "C" fn zundrafl_fill_row(
+    session: &mut session::Session,
+    rows: &mut [u64],
+    list: &[u64],
+    background: &[u64],
+    row: usize,
+    yes: u64,
+    no: u64,
+    answer: &mut answer_words::Answer,
+)
+    ensures { λ _. ⌜ AnswersOn (fill row (object yes no)) session rows list background answer ⌝ }
+{
+    *answer = coded_calls::fill_row(*session, rows, list, background, row, yes, no);
 }
 
 // Makes each call of a log and writes down its answer; where the answers have no room for all, nothing is done.

@@ -24,7 +24,7 @@ made c =
 
 abbrev turn : tie.After-write-answer Inv-loop μ-loop → tie.In-loop Inv-loop μ-loop
 turn c =
-    let d = made c .before .before .before in
+    let d = made c .before .before .before .before in
     d .before .before .before
 
 -- the count of the calls made fits in a word
@@ -66,6 +66,9 @@ replay-spec =
     μ-loop
     returns
     loop-holds
+    (λ c. omega arith)
+    (λ c. omega arith)
+    (λ c. omega arith)
     (λ c. omega arith)
     (λ c. omega arith)
     (λ c. omega arith)

@@ -1,20 +1,22 @@
 -- What one call of a log leaves: its answer's code, the machine's state after it, and past the words in use every word as it
--- was. A reply or a filing that is taken sets exactly the two words of the next place, and every other call leaves the words alone.
+-- was. A reply or a filing that is taken sets exactly the two words of the next place, a filling those of a row in use, and every other call
+-- leaves the words alone.
 use mathlib.Core.Path.{_≡_, refl, sym, ap, _∙_, subst}
 use mathlib.Core.Bool.{Bool, true, false, not, true≢false}
 use mathlib.Core.List.{List, [], _∷_}
 use mathlib.Core.Option.{Option, none, some}
-use Prim.Native.Nat.{ℕ, _+_, _*_}
+use Prim.Native.Nat.{ℕ, _+_, _*_, _<_}
 use native.Mathlib.Omega.{arith}
 use lib.ListN.{length, set, drop, length-set, length-append}
 use lib.Seq.{drop-set-lt}
 use Rattle.implication.specs.Pairs.Laws.{length-pairs}
 use Rattle.implication.specs.Closure.{implication}
 use Rattle.context.specs.Objects.{Object, object}
+use Rattle.context.specs.Filling.Laws.{length-filled}
 use Rattle.session.specs.declared.Refusal.{Refusal}
-use Rattle.machine.specs.Checks.{State, question}
-use Rattle.machine.specs.Machine.{Call, step, accept, reject, follow, refute, test, file, taken, refused, Turn, turn, afterFiling, performed, perform}
-use Rattle.machine.specs.Machine.Laws.{perform-cases, step-cases}
+use Rattle.machine.specs.Checks.{State, firstFailing, question}
+use Rattle.machine.specs.Machine.{Call, step, accept, reject, follow, refute, test, file, fill, taken, refused, Turn, turn, afterFiling, afterFill, performed, checksOf, perform}
+use Rattle.machine.specs.Machine.Laws.{perform-cases, fill-used, step-cases}
 use Rattle.machine.specs.Calls.{stateOf, rowsBy, listBy}
 use Rattle.machine.specs.Calls.Laws.{rows-kept, list-kept}
 use Rattle.session.specs.declared.Session.{Session}
@@ -35,6 +37,14 @@ still-past k k′ ws ws′ e w = record { more = omega arith; same = ap length w
 -- the two words of the next place set, and one place more in use
 put-past : (k k′ j a b : ℕ) (ws ws′ : List ℕ) → k ≡ j → k′ ≡ j + 1 → ws′ ≡ set (set ws (j * 2) a) (j * 2 + 1) b → PastKept k k′ ws ws′
 put-past k k′ j a b ws ws′ e f w = record {
+  more = omega arith;
+  same = ap length w ∙ length-set (set ws (j * 2) a) (j * 2 + 1) b ∙ length-set ws (j * 2) a;
+  past = ap (drop (k′ * 2)) w ∙ drop-set-lt (k′ * 2) (set ws (j * 2) a) (j * 2 + 1) b (omega arith) ∙ drop-set-lt (k′ * 2) ws (j * 2) a (omega arith);
+}
+
+-- the two words of a place in use set, and as many in use
+set-past : (k k′ j a b : ℕ) (ws ws′ : List ℕ) → j < k → k′ ≡ k → ws′ ≡ set (set ws (j * 2) a) (j * 2 + 1) b → PastKept k k′ ws ws′
+set-past k k′ j a b ws ws′ u f w = record {
   more = omega arith;
   same = ap length w ∙ length-set (set ws (j * 2) a) (j * 2 + 1) b ∙ length-set ws (j * 2) a;
   past = ap (drop (k′ * 2)) w ∙ drop-set-lt (k′ * 2) (set ws (j * 2) a) (j * 2 + 1) b (omega arith) ∙ drop-set-lt (k′ * 2) ws (j * 2) a (omega arith);
@@ -75,25 +85,32 @@ module _ (s s′ : Session) (background rows list rows′ list′ : List ℕ) wh
     list-still _ is refl q,
   )
 
-  performed-leaves : (c : Call) → Leaves c (performed before c)
+  -- a filling of row j, in use
+  filled-leaves : (j : ℕ) (m : Object) → j < length (before .rows) → Leaves (fill j m) (turn taken (afterFill before j m))
+  filled-leaves j m used is p q =
+      let count = length-pairs object (s .rows) rows in
+      (set-past _ _ j _ _ rows rows′ (subst (λ i. j < i) count used) (rows-counted _ is ∙ length-filled m j (before .rows) ∙ count) p, list-still _ is refl q)
+
+  performed-leaves : (c : Call) → firstFailing (checksOf before c) ≡ none → Leaves c (performed before c)
   unfolding performed
-  performed-leaves step = step-cases before (Leaves step) (λ e. same-leaves _ refl refl) (λ a b. same-leaves _ refl refl) (λ a b. same-leaves _ refl refl)
-  performed-leaves accept = λ is p q. (
+  performed-leaves step e = step-cases before (Leaves step) (λ d. same-leaves _ refl refl) (λ a b. same-leaves _ refl refl) (λ a b. same-leaves _ refl refl)
+  performed-leaves accept e = λ is p q. (
     rows-still _ is refl p,
     put-past _ _ (length (before .list)) _ _ list list′ (sym (length-pairs implication (s .rules) list))
         (list-counted _ is ∙ length-append (before .list) (question before ∷ [])) q,
   )
-  performed-leaves (reject o) = filed-leaves o
-  performed-leaves (follow r) = same-leaves _ refl refl
-  performed-leaves (refute r) = same-leaves _ refl refl
-  performed-leaves (test o) = same-leaves _ refl refl
-  performed-leaves (file o) = filed-leaves o
+  performed-leaves (reject o) e = filed-leaves o
+  performed-leaves (follow r) e = same-leaves _ refl refl
+  performed-leaves (refute r) e = same-leaves _ refl refl
+  performed-leaves (test o) e = same-leaves _ refl refl
+  performed-leaves (file o) e = filed-leaves o
+  performed-leaves (fill j m) e = filled-leaves j m (fill-used before j m e)
 
   refused-leaves : (c : Call) (r : Refusal) → Leaves c (turn (refused r) before)
   refused-leaves c r is p q = same-leaves _ refl refl is (p ∙ rows-kept c r before rows) (q ∙ list-kept c r before list)
 
   perform-leaves : (c : Call) → Leaves c (perform before c)
-  perform-leaves c = perform-cases before c (Leaves c) (λ e. performed-leaves c) (λ r e. refused-leaves c r)
+  perform-leaves c = perform-cases before c (Leaves c) (performed-leaves c) (λ r e. refused-leaves c r)
 
   -- one call of a log: its code, the state after it, and the words past those in use
   pub replayed : (o : Option Call) (x : Coded) → ReplaysFrom o s rows list background x s′ rows′ list′

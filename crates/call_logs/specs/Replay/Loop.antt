@@ -22,23 +22,24 @@ use Rattle.session.specs.declared.Session.{Session}
 
 -- the call at i
 abbrev pub callAt : List ℕ → ℕ → Option Call
-callAt ws i = callOf (getD ws (i * 3) 0) (getD ws (i * 3 + 1) 0) (getD ws (i * 3 + 2) 0)
+callAt ws i = callOf (getD ws (i * 4) 0) (getD ws (i * 4 + 1) 0) (getD ws (i * 4 + 2) 0) (getD ws (i * 4 + 3) 0)
 
 -- the calls from i on, of n
 abbrev pub callsFrom : ℕ → ℕ → List ℕ → List (Option Call)
-callsFrom n i ws = callsOf (n - i) (drop (i * 3) ws)
+callsFrom n i ws = callsOf (n - i) (drop (i * 4) ws)
 
 pub calls-at : (ws : List ℕ) (n i : ℕ) → i < n → callsFrom n i ws ≡ callAt ws i ∷ callsFrom n (i + 1) ws
 unfolding callsOf
 calls-at ws n i h =
     let e : n - i ≡ suc (n - (i + 1)) = omega arith in
-    let z : i * 3 + 0 ≡ i * 3 = omega arith in
-    let y : i * 3 + 3 ≡ (i + 1) * 3 = omega arith in
-    let a : getD (drop (i * 3) ws) 0 0 ≡ getD ws (i * 3) 0 = getD-drop (i * 3) ws 0 0 ∙ ap (λ (k : ℕ). getD ws k 0) z in
-    let b : getD (drop (i * 3) ws) 1 0 ≡ getD ws (i * 3 + 1) 0 = getD-drop (i * 3) ws 1 0 in
-    let c : getD (drop (i * 3) ws) 2 0 ≡ getD ws (i * 3 + 2) 0 = getD-drop (i * 3) ws 2 0 in
-    let d : drop 3 (drop (i * 3) ws) ≡ drop ((i + 1) * 3) ws = drop-drop 3 (i * 3) ws ∙ ap (λ (k : ℕ). drop k ws) y in
-    rw e (rw (a, b, c, d) refl)
+    let z : i * 4 + 0 ≡ i * 4 = omega arith in
+    let y : i * 4 + 4 ≡ (i + 1) * 4 = omega arith in
+    let k : getD (drop (i * 4) ws) 0 0 ≡ getD ws (i * 4) 0 = getD-drop (i * 4) ws 0 0 ∙ ap (λ (j : ℕ). getD ws j 0) z in
+    let a : getD (drop (i * 4) ws) 1 0 ≡ getD ws (i * 4 + 1) 0 = getD-drop (i * 4) ws 1 0 in
+    let b : getD (drop (i * 4) ws) 2 0 ≡ getD ws (i * 4 + 2) 0 = getD-drop (i * 4) ws 2 0 in
+    let c : getD (drop (i * 4) ws) 3 0 ≡ getD ws (i * 4 + 3) 0 = getD-drop (i * 4) ws 3 0 in
+    let d : drop 4 (drop (i * 4) ws) ≡ drop ((i + 1) * 4) ws = drop-drop 4 (i * 4) ws ∙ ap (λ (j : ℕ). drop j ws) y in
+    rw e (rw (k, a, b, c, d) refl)
 
 -- no call is left
 pub calls-end : (ws : List ℕ) (n i : ℕ) → n ≤ i → callsFrom n i ws ≡ []
@@ -99,11 +100,11 @@ past-trans {k} {k′} {k″} {a} {b} {c} p q = record {
 
 -- i calls of the log are made
 pub record Going (background calls : List ℕ) (s : Session) (before : LogWords) (s′ : Session) (after : LogWords) (i : ℕ) : Type 0 where
-  pub inside : i ≤ length calls / 3
+  pub inside : i ≤ length calls / 4
   pub room : length (after .answers) ≡ length (before .answers)
-  pub holds : run (stateOf s′ (after .rows) (after .list) background) (known (callsFrom (length calls / 3) i calls))
+  pub holds : run (stateOf s′ (after .rows) (after .list) background) (known (callsFrom (length calls / 4) i calls))
       ≡ run (stateOf s (before .rows) (before .list) background) (known (logOf calls))
-  pub answers : take (i * 3) (after .answers) ++ answersOf (stateOf s′ (after .rows) (after .list) background) (callsFrom (length calls / 3) i calls)
+  pub answers : take (i * 3) (after .answers) ++ answersOf (stateOf s′ (after .rows) (after .list) background) (callsFrom (length calls / 4) i calls)
       ≡ answersOf (stateOf s (before .rows) (before .list) background) (logOf calls)
   pub past : drop (i * 3) (after .answers) ≡ drop (i * 3) (before .answers)
   pub rows : PastKept (s .rows) (s′ .rows) (before .rows) (after .rows)
@@ -122,7 +123,7 @@ module _ (background calls : List ℕ) (s : Session) (before : LogWords) where
   }
 
   -- the call at i is made, and its answer is stored
-  going-stored : (s′ : Session) (after : LogWords) (i : ℕ) → Going background calls s before s′ after i → i < length calls / 3 → (i + 1) * 3 ≤ length (before .answers)
+  going-stored : (s′ : Session) (after : LogWords) (i : ℕ) → Going background calls s before s′ after i → i < length calls / 4 → (i + 1) * 3 ≤ length (before .answers)
       → (e : Coded) (s″ : Session) (rows list : List ℕ)
       → ReplaysFrom (callAt calls i) s′ (after .rows) (after .list) background e s″ rows list
       → Going background calls s before s″
@@ -132,7 +133,7 @@ module _ (background calls : List ℕ) (s : Session) (before : LogWords) where
       let one = replayed s′ s″ background (after .rows) (after .list) rows list (callAt calls i) e m in
       let answered = one .0 in
       let stands = one .1 .0 in
-      let n = length calls / 3 in
+      let n = length calls / 4 in
       let x : State = stateOf s′ (after .rows) (after .list) background in
       let y : State = stateOf s″ rows list background in
       let c = callAt calls i in
@@ -154,7 +155,7 @@ module _ (background calls : List ℕ) (s : Session) (before : LogWords) where
         list = past-trans (g .list) (one .1 .1 .1);
       }
 
-  pub going-on : (s′ : Session) (after : LogWords) (i : ℕ) → Going background calls s before s′ after i → i < length calls / 3 → (i + 1) * 3 ≤ length (before .answers)
+  pub going-on : (s′ : Session) (after : LogWords) (i : ℕ) → Going background calls s before s′ after i → i < length calls / 4 → (i + 1) * 3 ≤ length (before .answers)
       → (e : Coded) (s″ : Session) (rows list answers : List ℕ)
       → ReplaysFrom (callAt calls i) s′ (after .rows) (after .list) background e s″ rows list → answers ≡ stored (after .answers) i e
       → Going background calls s before s″ (logWords rows list answers) (i + 1)
@@ -162,11 +163,11 @@ module _ (background calls : List ℕ) (s : Session) (before : LogWords) where
       subst (λ ws. Going background calls s before s″ (logWords rows list ws) (i + 1)) (sym is) (going-stored s′ after i g h fits e s″ rows list m)
 
   -- no call is left
-  pub going-end : (s′ : Session) (after : LogWords) (i : ℕ) → Going background calls s before s′ after i → length calls / 3 ≤ i
+  pub going-end : (s′ : Session) (after : LogWords) (i : ℕ) → Going background calls s before s′ after i → length calls / 4 ≤ i
       → AllMade background calls s before s′ after
   unfolding run known answersOf
   going-end s′ after i g h =
-      let n = length calls / 3 in
+      let n = length calls / 4 in
       let x : State = stateOf s′ (after .rows) (after .list) background in
       let end = calls-end calls n i h in
       let j : i ≡ n = omega arith in

@@ -1,4 +1,4 @@
--- Laws of the reading by pairs: how many it reads, which, what a written pair adds, and what lies past the slice's end.
+-- Laws of the reading by pairs: how many it reads, which, what a written pair adds or alters, and what lies past the slice's end.
 use mathlib.Core.Path.{_≡_, refl, sym, ap, _∙_}
 use mathlib.Core.Logic.{_⊎_, inl, inr}
 use mathlib.Core.List.{List, [], _∷_, _++_, List·Memᴰ, List·Memᴰ·head, List·Memᴰ·tail, append-nil}
@@ -84,6 +84,19 @@ module _ {A : Type 0} (make : ℕ → ℕ → A) where
       let e : suc n * 2 ≡ suc (suc (n * 2)) = omega arith in
       let f : suc (suc (n * 2)) + 1 ≡ suc (suc (n * 2 + 1)) = omega arith in
       rw (e, f) (ap (λ l. make x y ∷ l) (pairs-put n ws a b (omega arith)))
+
+  -- a pair written at the place k is the element at k
+  pub pairs-set : (n k : ℕ) (ws : List ℕ) (a b : ℕ) → k * 2 + 1 < length ws
+      → pairs make n (set (set ws (k * 2) a) (k * 2 + 1) b) ≡ set (pairs make n ws) k (make a b)
+  unfolding pairs
+  pairs-set zero k ws a b h = refl
+  pairs-set (suc n) k [] a b h = absurd (omega arith)
+  pairs-set (suc n) k (x ∷ []) a b h = absurd (omega arith)
+  pairs-set (suc n) zero (x ∷ y ∷ ws) a b h = refl
+  pairs-set (suc n) (suc k) (x ∷ y ∷ ws) a b h =
+      let e : suc k * 2 ≡ suc (suc (k * 2)) = omega arith in
+      let f : suc (suc (k * 2)) + 1 ≡ suc (suc (k * 2 + 1)) = omega arith in
+      rw (e, f) (ap (λ l. make x y ∷ l) (pairs-set n k ws a b (omega arith)))
 
   -- past the last whole pair the second word is 0
   pub pairs-short : (P : A → Type 0) → ((a : ℕ) → P (make a 0)) → (n : ℕ) (ws : List ℕ) → length ws < 2 → All P (pairs make n ws)

@@ -10,8 +10,9 @@ use lib.ListN.{length}
 use Rattle.session.specs.declared.Session.{Session}
 use Rattle.session.specs.declared.Refusal.{Refusal}
 use Rattle.session.specs.Choice.{chosen}
+use Rattle.context.specs.Filling.{joined, objectAt}
 use Rattle.machine.specs.Checks.{State, question}
-use Rattle.machine.specs.Machine.{Call, step, accept, reject, follow, refute, test, file, Answer, finished, moved, asked, taken, followed, refuted, unrefuted, refuting, refused, Turn, turn, performed, perform}
+use Rattle.machine.specs.Machine.{Call, step, accept, reject, follow, refute, test, file, fill, Answer, finished, moved, asked, taken, followed, refuted, unrefuted, refuting, refused, Turn, turn, performed, perform}
 use Rattle.machine.specs.Machine.Laws.{perform-cases, step-cases}
 use Rattle.machine.specs.Calls.{stateOf, putPair, rowsBy, listBy, rowsAfter, listAfter, changes, MadeFrom, TurnedFrom}
 
@@ -68,6 +69,7 @@ performed-unchanged s (follow r) = λ h. refl
 performed-unchanged s (refute r) = λ h. refl
 performed-unchanged s (test o) = λ h. refl
 performed-unchanged s (file o) = λ h. absurd (true≢false h)
+performed-unchanged s (fill k m) = λ h. absurd (true≢false h)
 
 pub unchanged : (s : State) (c : Call) → changes (perform s c .answer) ≡ false → perform s c .after ≡ s
 unchanged s c = perform-cases s c (λ t. changes (t .answer) ≡ false → t .after ≡ s) (λ e. performed-unchanged s c) (λ r e h. refl)
@@ -91,6 +93,8 @@ rows-unchanged s (follow r) ws h = refl
 rows-unchanged s (refute r) ws h = refl
 rows-unchanged s (test o) ws h = refl
 rows-unchanged s (file o) ws h = put-kept (perform s (file o) .answer) (length (s .rows)) (o .yes-marks) (o .no-marks) ws h
+rows-unchanged s (fill k m) ws h =
+    put-kept (perform s (fill k m) .answer) k (joined (objectAt (s .rows) k) m .yes-marks) (joined (objectAt (s .rows) k) m .no-marks) ws h
 
 pub list-unchanged : (s : State) (c : Call) (ws : List ℕ) → changes (perform s c .answer) ≡ false → listAfter c s ws ≡ ws
 list-unchanged s step ws h = refl
@@ -100,6 +104,7 @@ list-unchanged s (follow r) ws h = refl
 list-unchanged s (refute r) ws h = refl
 list-unchanged s (test o) ws h = refl
 list-unchanged s (file o) ws h = refl
+list-unchanged s (fill k m) ws h = refl
 
 module _ {X : Type 0} {says : Answer → X} {c : Call} {s after : Session} {rows list background rows′ list′ : List ℕ} {x : X} where
   pub kept-made : MadeFrom says c s rows list background x after rows′ list′ → changes (perform (stateOf s rows list background) c .answer) ≡ false
@@ -129,6 +134,7 @@ rows-kept (follow q) r s ws = refl
 rows-kept (refute q) r s ws = refl
 rows-kept (test o) r s ws = refl
 rows-kept (file o) r s ws = refl
+rows-kept (fill k m) r s ws = refl
 
 pub list-kept : (c : Call) (r : Refusal) (s : State) (ws : List ℕ) → listBy c (refused r) s ws ≡ ws
 list-kept step r s ws = refl
@@ -138,3 +144,4 @@ list-kept (follow q) r s ws = refl
 list-kept (refute q) r s ws = refl
 list-kept (test o) r s ws = refl
 list-kept (file o) r s ws = refl
+list-kept (fill k m) r s ws = refl

@@ -11,13 +11,14 @@ use Rattle.theory.specs.Lists.{All}
 use Rattle.theory.specs.Lists.Laws.{all-take}
 use Rattle.theory.specs.Implications.{Implication, Over}
 use Rattle.attribute_set.specs.Sets.{Sub, inside, full}
-use Rattle.attribute_set.specs.Sets.Laws.{inside-sub, none-sub, sub-inside}
+use Rattle.attribute_set.specs.Sets.Laws.{inside-sub, none-sub, sub-inside, or-least}
 use Rattle.attribute_set.specs.Words.{words}
 use Rattle.implication.specs.Closure.{implication, closure}
 use Rattle.context.specs.Places.{anywhere}
 use Rattle.context.specs.Places.Laws.{anywhere-false}
 use Rattle.context.specs.Places.Search.{anywhere-cons, anywhere-append}
 use Rattle.context.specs.Objects.{Object, contradicts}
+use Rattle.context.specs.Filling.{joined}
 use Rattle.session.specs.declared.Refusal.{Refusal}
 use Rattle.session.specs.Refusals.{refusal}
 use Rattle.machine.specs.Checks.{State, Check, firstFailing, strange, strangeObject, strangeImplication, outsideM, sessionChecks, testChecks, filingChecks, noChecks, force, reachOf, Standing, whole, tight, open-question, standing, questionStands}
@@ -123,6 +124,10 @@ no-both s o e =
 pub record InM (n : ℕ) (o : Object) : Type 0 where
   pub yes-marks : Sub (o .yes-marks) (full n)
   pub no-marks : Sub (o .no-marks) (full n)
+
+-- so are those of a filled one
+pub joined-in : (n : ℕ) (o m : Object) → InM n o → InM n m → InM n (joined o m)
+joined-in n o m i j = record { yes-marks = or-least (i .yes-marks) (j .yes-marks); no-marks = or-least (i .no-marks) (j .no-marks) }
 
 pub familiar-object : (n : ℕ) (o : Object) → strangeObject n o ≡ false → InM n o
 unfolding strange

@@ -27,10 +27,12 @@ use Rattle.context.specs.Places.Laws.{anywhere-false}
 use Rattle.context.specs.Objects.{Object, has, lacks, contradicts}
 use Rattle.context.specs.Objects.Laws.{consistent-apart, has-more, lacks-more}
 use Rattle.reach.specs.Reach.{reach}
-use Rattle.reach.specs.Reach.Laws.{reach-great, reach-inside, reach-snoc, reach-more}
-use Rattle.machine.specs.Checks.{Lent, State, force, reachOf, question, withQuestion, firstFailing, sessionChecks, yesChecks, filingChecks}
+use Rattle.context.specs.Filling.{joined, objectAt, filledAt}
+use Rattle.context.specs.Filling.Laws.{all-filled}
+use Rattle.reach.specs.Reach.Laws.{reach-great, reach-inside, reach-snoc, reach-filled, reach-more}
+use Rattle.machine.specs.Checks.{Lent, State, force, reachOf, question, withQuestion, firstFailing, sessionChecks, yesChecks, filingChecks, fillChecks}
 use Rattle.machine.specs.Checks.Laws.{passed, none-failing, passed-append, no-both, Valid, valid, Stands, stands}
-use Rattle.machine.specs.Machine.{Call, step, accept as accepting, reject, follow, refute, test, file, afterMove, afterYes, afterFiling, performed, checksOf, perform, run, opening, opened, openingState}
+use Rattle.machine.specs.Machine.{Call, step, accept as accepting, reject, follow, refute, test, file, fill, afterMove, afterYes, afterFiling, afterFill, performed, checksOf, perform, run, opening, opened, openingState}
 use Rattle.machine.specs.Machine.Laws.{perform-cases, step-cases, opened-is}
 
 -- the sets of the background
@@ -149,8 +151,19 @@ module _ (s : State) (h : Reached s) where
   unfolding filingChecks
   filing-reached o e = filed-reached o (passed (filingChecks s o) e .1 .0)
 
+  -- marks added to a row that does not contradict with them
+  pub filled-reached : (k : ℕ) (m : Object) → contradicts (force s) (joined (objectAt (s .rows) k) m) ≡ false → Reached (afterFill s k m)
+  filled-reached k m ok =
+      let all = all-filled m k (s .rows) (h .consistent) ok in
+      record {
+        over = h .over;
+        consistent = all;
+        explored = shrink words (Base s) (h .explored) (λ q. reach-filled (force s) (s .n) (s .rows) q k m)
+            (sound-rows (s .n) (s .background) (s .list) (h .over) (force s) (filledAt k m (s .rows)) (λ p t q i. consistent-apart (force s) p (all p t) i));
+      }
+
   performed-reached : (c : Call) → firstFailing (checksOf s c) ≡ none → Reached (performed s c .after)
-  unfolding performed checksOf yesChecks
+  unfolding performed checksOf yesChecks fillChecks
   performed-reached step e = step-cases s (λ t. Reached (t .after)) (λ f. h) moved-reached (λ a b. h)
   performed-reached accepting e =
       let p = passed-append (sessionChecks s []) (yesChecks s) e .1 in
@@ -160,6 +173,7 @@ module _ (s : State) (h : Reached s) where
   performed-reached (refute r) e = h
   performed-reached (test o) e = h
   performed-reached (file o) e = filing-reached o (none-failing _ (passed-append (sessionChecks s []) (filingChecks s o) e .1))
+  performed-reached (fill k m) e = filled-reached k m (passed-append (sessionChecks s []) (fillChecks s k m) e .1 .1 .1 .1 .0)
 
 pub perform-reached : (s : State) (c : Call) → Reached s → Reached (perform s c .after)
 perform-reached s c h = perform-cases s c (λ t. Reached (t .after)) (performed-reached s h c) (λ r e. h)

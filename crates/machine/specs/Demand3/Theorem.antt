@@ -1,5 +1,5 @@
 -- Demand 3, points 2 to 5: after every accepted opening and every list of calls, refused ones included,
--- the rows and the list are those of the accepted replies and filings, a finished interview decides every implication over M, the list is
+-- the rows and the list are those of the accepted replies, filings and fillings, a finished interview decides every implication over M, the list is
 -- as short as any with the same consequences, and truthful finished interviews over one complete table end in the same list.
 use mathlib.Core.Path.{_≡_, refl, sym, ap, _∙_, subst}
 use mathlib.Core.Logic.{_↔_}
@@ -30,7 +30,7 @@ use Rattle.context.specs.Tables.Laws.{agreeing-closed, follows-tables, refutes-
 use Rattle.machine.specs.Checks.{Lent, State, force}
 use Rattle.machine.specs.Machine.{Call, run, opening, opened, openingState}
 use Rattle.machine.specs.Machine.Laws.{finished-full, opened-is}
-use Rattle.machine.specs.Replies.{Reply, agreed, offered, agreedIn, offeredIn, replies, AgreesReply, Truthful}
+use Rattle.machine.specs.Replies.{Reply, agreed, offered, filled, agreedIn, offeredIn, filledBy, replies, AgreesReply, Truthful}
 use Rattle.machine.specs.Replies.Laws.{run-same, run-rows, run-list}
 use Rattle.machine.specs.Demand3.{Finished, OverM, Unrefuted, SameConsequences, AfterCalls, SameList, Demand3}
 use Rattle.machine.specs.Demand3.Invariant.{Base, Reached, run-reached, opened-reached}
@@ -96,6 +96,7 @@ unfolding agreedIn
 agreed-all t [] h = all-nil _
 agreed-all t (agreed q ∷ rs) h = all-cons (h (agreed q) (List·Memᴰ·head refl)) (agreed-all t rs (λ r m. h r (List·Memᴰ·tail m)))
 agreed-all t (offered o ∷ rs) h = agreed-all t rs (λ r m. h r (List·Memᴰ·tail m))
+agreed-all t (filled k m ∷ rs) h = agreed-all t rs (λ r i. h r (List·Memᴰ·tail i))
 
 -- an object of which a table that agrees with the implications in force has a completion refutes nothing that holds in the table
 unrefuted-by : (n : ℕ) (t : List Object) (rs : List (Implication ℕ)) → Table n t → All (OverM n) rs → All (AgreesImplication t) rs
@@ -135,7 +136,7 @@ module _ (n : ℕ) (lent : Lent) (background : List (Implication ℕ)) (rows : L
     same-n = end-n;
     same-lent = run-same start calls .lent ∙ ap (λ (x : State). x .lent) is-start;
     same-background = end-background;
-    all-rows = run-rows start calls ∙ ap (λ (x : State). x .rows ++ offeredIn (replies start calls)) is-start;
+    all-rows = run-rows start calls ∙ ap (λ (x : State). filledBy (replies start calls) (x .rows ++ offeredIn (replies start calls))) is-start;
     all-list = end-list;
     decided = λ f r i. rw (← end-background) (decided end reached f r (rw end-n i));
     shortest = λ l i same. shortest end reached l (rw end-n i) (rw (end-n, end-background) same);

@@ -6,14 +6,15 @@ use Rattle.implication.specs.Closure.{fire, pass, close, closure}
 use Rattle.next_set.specs.Next.{fits, nextBelow}
 use Rattle.context.specs.Places.{lowest, anywhere}
 use Rattle.context.specs.Objects.{has, excludes, lacks, refutes, firstRefuting, markedTwice, contradicts}
+use Rattle.context.specs.Filling.{reverses, filledAt}
 use Rattle.reach.specs.Reach.{cut, narrow, reach}
 use Rattle.session.specs.Limits.{badLength}
-use Rattle.machine.specs.Checks.{standing, questionStands, firstFailing, strange, outsideM, sessionChecks, yesChecks, testChecks, filingChecks}
+use Rattle.machine.specs.Checks.{standing, questionStands, firstFailing, strange, outsideM, sessionChecks, yesChecks, testChecks, filingChecks, fillChecks}
 use Rattle.machine.specs.Machine.{performStep, refutedAt, performed, checksOf, perform, opening}
 use Rattle.machine.specs.Edges.{Edges}
 
 pub edges : Edges
-unfolding full without inside meets fire pass close closure fits nextBelow lowest anywhere passing has excludes lacks refutes firstRefuting markedTwice contradicts cut narrow reach standing questionStands firstFailing badLength strange outsideM sessionChecks yesChecks testChecks filingChecks performStep refutedAt performed checksOf perform opening
+unfolding full without inside meets fire pass close closure fits nextBelow lowest anywhere passing has excludes lacks refutes firstRefuting markedTwice contradicts reverses filledAt cut narrow reach standing questionStands firstFailing badLength strange outsideM sessionChecks yesChecks testChecks filingChecks fillChecks performStep refutedAt performed checksOf perform opening
 edges = record {
   most-attributes = refl;
   too-many-attributes = refl;
@@ -73,4 +74,21 @@ edges = record {
   file-nine-twice = refl;
   file-eleven = refl;
   file-twelve = refl;
+  filled = refl;
+  fill-again = refl;
+  fill-nothing = refl;
+  fill-first = refl;
+  fill-last = refl;
+  fill-unasked = refl;
+  fill-at-M = refl;
+  fill-next-number = refl;
+  fill-no-rows = refl;
+  fill-largest-number = refl;
+  fill-nine-outside = refl;
+  fill-nine-twice = refl;
+  fill-yes-to-no = refl;
+  fill-no-to-yes = refl;
+  fill-33-before-11 = refl;
+  fill-eleven = refl;
+  fill-eleven-implied = refl;
 }

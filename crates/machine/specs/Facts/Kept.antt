@@ -1,12 +1,12 @@
 -- A session once opened never goes bad. After an accepted opening and any list of calls checks 1 to 7 pass (`never-bad`), so that a step is
--- not refused, a reply is refused with 8 to 12 alone, a test with 8 to 10, a filing with 9, 11 and 12, and a read-only call about a rule
--- with 4 alone, where the rule is not over M (`late-refusals`). From it: a step answers Finished just where the current set is M
+-- not refused, a reply is refused with 8 to 12 alone, a test with 8 to 10, a filing with 9, 11 and 12, a filling with 32, 9, 33 and 11, and a
+-- read-only call about a rule with 4 alone, where the rule is not over M (`late-refusals`). From it: a step answers Finished just where the current set is M
 -- (`finished-at-full`, `full-finished`), and Asked just where a question stands (`asked-stands`, `stands-asked`). A finished interview stays
 -- finished, whatever is called then (`stays-finished`). At the opening, 7 and the list's part of 3 and 4 cannot fail (`opening-closed`,
 -- `opening-list`).
 use mathlib.Core.Path.{_≡_, refl, sym, ap, _∙_, subst}
 use mathlib.Core.Bool.{Bool, true, false}
-use mathlib.Core.List.{List, [], _∷_, _++_, List·Memᴰ·head, List·Memᴰ·tail, append-nil}
+use mathlib.Core.List.{List, [], _∷_, _++_, List·Memᴰ, List·Memᴰ·head, List·Memᴰ·tail, append-nil}
 use mathlib.Core.Option.{Option, none, some, Option·some-ne-none}
 use Prim.Native.Nat.{ℕ, _/_, _≤_}
 use native.Mathlib.Omega.{arith}
@@ -24,16 +24,18 @@ use Rattle.context.specs.Places.{anywhere}
 use Rattle.context.specs.Places.Laws.{anywhere-false, all-anywhere}
 use Rattle.context.specs.Objects.{Object}
 use Rattle.context.specs.Objects.Laws.{contradicts-apart}
+use Rattle.context.specs.Filling.{objectAt}
+use Rattle.context.specs.Filling.Laws.{joined-once, all-filled, length-filled, object-member}
 use Rattle.session.specs.declared.Refusal.{Refusal}
 use Rattle.session.specs.Refusals.{refusal}
 use Rattle.session.specs.Limits.{mostAttributes, mostObjects, mostImplications}
-use Rattle.machine.specs.Checks.{Lent, State, Check, firstFailing, strangeObject, strangeImplication, outsideM, sessionChecks, yesChecks, testChecks, filingChecks, noChecks, force, question}
-use Rattle.machine.specs.Checks.Laws.{or-false, passed, none-failing, failing-here, failing-later, failing-append, passed-append, no-both, InM, familiar-implication, Stands}
-use Rattle.machine.specs.Machine.{Call, step, accept, reject, follow, refute, test, file, finished, asked, refused, afterYes, afterFiling, performStep, performed, checksOf, perform, run, opening, opened, openingState}
+use Rattle.machine.specs.Checks.{Lent, State, Check, firstFailing, strangeObject, strangeImplication, outsideM, sessionChecks, yesChecks, testChecks, filingChecks, fillChecks, noChecks, force, question}
+use Rattle.machine.specs.Checks.Laws.{or-false, passed, none-failing, failing-here, failing-later, failing-append, passed-append, no-both, InM, joined-in, familiar-implication, Stands}
+use Rattle.machine.specs.Machine.{Call, step, accept, reject, follow, refute, test, file, fill, finished, asked, refused, afterYes, afterFiling, afterFill, performStep, performed, checksOf, perform, run, opening, opened, openingState}
 use Rattle.machine.specs.Machine.Laws.{perform-cases, perform-accepted, step-cases, no-refusal, performed-answers, opened-is, finished-full}
 use Rattle.machine.specs.Demand3.Invariant.{Reached, current-in, perform-reached, run-reached, opened-reached}
 use Rattle.machine.specs.Facts.{Places, Fine}
-use Rattle.machine.specs.Facts.Laws.{checks-fine, fine-checks, checks-yes, checks-filing}
+use Rattle.machine.specs.Facts.Laws.{checks-fine, fine-checks, checks-yes, checks-filing, checks-fill}
 
 -- ---- the calls keep it
 
@@ -76,6 +78,15 @@ module _ (s : State) (f : Fine s) where
       fine-again s (afterFiling s o) f refl refl h (omega (arith, y .place, length-append (s .rows) (o ∷ []))) (f .list-places)
       (all-snoc (s .rows) o rows-fine (y .inside, y .once))
 
+  -- the filled row is a row over M that marks no attribute both ways
+  filled-fine : (k : ℕ) (m : Object) → firstFailing (fillChecks s k m) ≡ none → Reached (afterFill s k m) → Fine (afterFill s k m)
+  filled-fine k m e h =
+      let y = checks-fill s m k e in
+      let was = rows-fine (objectAt (s .rows) k) (object-member k (s .rows) (y .used)) in
+      let inside = joined-in (s .n) (objectAt (s .rows) k) m (was .0) (y .inside) in
+      fine-again s (afterFill s k m) f refl refl h (rw length-filled (f .row-places)) (f .list-places)
+      (all-filled m k (s .rows) rows-fine (inside, joined-once (objectAt (s .rows) k) m (was .1) (y .once) (y .yes-stays) (y .no-stays)))
+
   performed-fine : (c : Call) → firstFailing (checksOf s c) ≡ none → Reached (performed s c .after) → Fine (performed s c .after)
   unfolding performed checksOf
   performed-fine step e g = step-cases s (λ t. Reached (t .after) → Fine (t .after)) (λ d h. f)
@@ -88,6 +99,7 @@ module _ (s : State) (f : Fine s) where
   performed-fine (refute r) e h = f
   performed-fine (test o) e h = f
   performed-fine (file o) e h = filed-fine o (none-failing _ (passed-append (sessionChecks s []) (filingChecks s o) e .1)) h
+  performed-fine (fill k m) e h = filled-fine k m (none-failing _ (passed-append (sessionChecks s []) (fillChecks s k m) e .1)) h
 
 pub perform-fine : (s : State) (c : Call) → Reached s → Fine s → Fine (perform s c .after)
 perform-fine s c h f =
@@ -107,8 +119,12 @@ never-bad n lent background rows start e calls =
 
 -- ---- what is refused then
 
--- the refusals that are left: none of a step, 8 to 12 of a reply, 4 of a rule asked about that is not over M, 8 to 10 of a test, and of a
--- filing 9, 11 and 12
+-- the numbers of a filling's own checks
+abbrev pub FillNumber : ℕ → Type 0
+FillNumber k = List·Memᴰ k (32 ∷ 9 ∷ 33 ∷ 11 ∷ [])
+
+-- the refusals that are left: none of a step, 8 to 12 of a reply, 4 of a rule asked about that is not over M, 8 to 10 of a test, of a filing 9,
+-- 11 and 12, and of a filling 32, 9, 33 and 11
 abbrev pub LateRefusal : State → Call → Refusal → Type 0
 LateRefusal s step r = ⊥
 LateRefusal s accept r = 8 ≤ r .number
@@ -117,6 +133,7 @@ LateRefusal s (follow q) r = (r ≡ refusal 4 0) × (Over words (full (s .n)) q 
 LateRefusal s (refute q) r = (r ≡ refusal 4 0) × (Over words (full (s .n)) q → ⊥)
 LateRefusal s (test o) r = (8 ≤ r .number) × (r .number ≤ 10)
 LateRefusal s (file o) r = (9 ≤ r .number) × (r .number ≤ 12) × (r .number ≡ 10 → ⊥)
+LateRefusal s (fill k m) r = FillNumber (r .number)
 
 -- a refusal has the number of one of the checks
 pub failing-number : (P : ℕ → Type 0) (cs : List Check) → All (λ c. P (c .number)) cs → (r : Refusal) → firstFailing cs ≡ some r → P (r .number)
@@ -141,6 +158,12 @@ unfolding filingChecks
 filing-numbers s o =
     all-cons (omega arith, omega arith, λ e. omega arith) (all-cons (omega arith, omega arith, λ e. omega arith)
     (all-cons (omega arith, omega arith, λ e. omega arith) (all-nil _)))
+
+pub fill-numbers : (s : State) (k : ℕ) (m : Object) → All (λ x. FillNumber (x .number)) (fillChecks s k m)
+unfolding fillChecks
+fill-numbers s k m =
+    all-cons (List·Memᴰ·head refl) (all-cons (List·Memᴰ·tail (List·Memᴰ·head refl)) (all-cons (List·Memᴰ·tail (List·Memᴰ·tail (List·Memᴰ·head refl)))
+    (all-cons (List·Memᴰ·tail (List·Memᴰ·tail (List·Memᴰ·tail (List·Memᴰ·head refl)))) (all-nil _))))
 
 module _ (s : State) (f : Fine s) where
   yes-late : (r : Refusal) → firstFailing (yesChecks s) ≡ some r → 8 ≤ r .number
@@ -189,6 +212,9 @@ module _ (s : State) (f : Fine s) where
   late-by-call (file o) r e =
       failing-number (λ k. (9 ≤ k) × (k ≤ 12) × (k ≡ 10 → ⊥)) (filingChecks s o) (filing-numbers s o) r
       (sym (failing-append (sessionChecks s []) (filingChecks s o) (passed _ fine-passed)) ∙ e)
+  late-by-call (fill k m) r e =
+      failing-number FillNumber (fillChecks s k m) (fill-numbers s k m) r
+      (sym (failing-append (sessionChecks s []) (fillChecks s k m) (passed _ fine-passed)) ∙ e)
 
   pub late-refusals : (c : Call) (r : Refusal) → perform s c .answer ≡ refused r → LateRefusal s c r
   late-refusals c r =
@@ -223,7 +249,7 @@ module _ (s : State) (f : Fine s) where
 
 -- ---- once finished
 
--- at M no call moves: a step finishes, a yes is refused, and a row more leaves the current set
+-- at M no call moves: a step finishes, a yes is refused, and a row more or a filled one leaves the current set
 full-stays : (s : State) (c : Call) → s .current ≡ full (s .n) → perform s c .after .current ≡ full (perform s c .after .n)
 unfolding performed checksOf
 full-stays s c d = perform-cases s c (λ t. t .after .current ≡ full (t .after .n)) (at-full c) (λ r e. d)
@@ -236,6 +262,7 @@ full-stays s c d = perform-cases s c (λ t. t .after .current ≡ full (t .after
     at-full (refute r) e = d
     at-full (test o) e = d
     at-full (file o) e = d
+    at-full (fill k m) e = d
 
 run-finished : (s : State) (calls : List Call) → Reached s → Fine s → perform s step .answer ≡ finished → perform (run s calls) step .answer ≡ finished
 unfolding run
@@ -244,7 +271,7 @@ run-finished s (c ∷ calls) h f d =
     let f′ = perform-fine s c h f in
     run-finished (perform s c .after) calls (perform-reached s c h) f′ (full-finished (perform s c .after) f′ (full-stays s c (finished-full s d)))
 
--- an interview that is finished stays finished, whatever is called then: filings after Finished too
+-- an interview that is finished stays finished, whatever is called then: filings and fillings after Finished too
 pub stays-finished : (n : ℕ) (lent : Lent) (background : List (Implication ℕ)) (rows : List Object) (start : State)
     → opening n lent background rows ≡ opened start → (calls more : List Call)
     → perform (run start calls) step .answer ≡ finished → perform (run (run start calls) more) step .answer ≡ finished

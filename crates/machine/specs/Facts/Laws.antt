@@ -3,7 +3,7 @@
 -- `test-checks`), those of a filing just where `FilingFits` does (`checks-filing`, `filing-checks`), and a no fits just where both do
 -- (`both-fit`, `fits-both`). So a reply is taken just where it fits (`yes-taken`, `taken-yes`, `no-taken`, `taken-no`), a test answers that the
 -- row refutes just where it fits (`test-refuting`, `refuting-test`; `test-ten`), and a filing is taken just where it fits (`filing-taken`,
--- `taken-filing`).
+-- `taken-filing`). The same of a filling (`checks-fill`, `fill-checks`; `fill-taken`, `taken-fill`).
 use mathlib.Core.Path.{_≡_, refl, sym, ap, _∙_, subst}
 use mathlib.Core.Bool.{Bool, true, false, not, _||_}
 use mathlib.Core.List.{List, [], _++_}
@@ -23,13 +23,15 @@ use Rattle.context.specs.Places.{anywhere}
 use Rattle.context.specs.Places.Laws.{anywhere-false, all-anywhere}
 use Rattle.context.specs.Objects.{Object, refutes}
 use Rattle.context.specs.Objects.Laws.{marked-apart, apart-marked, contradicts-apart, apart-contradicts}
+use Rattle.context.specs.Filling.{joined, objectAt}
+use Rattle.context.specs.Filling.Laws.{unreversed, not-reversing}
 use Rattle.session.specs.Refusals.{refusal}
 use Rattle.session.specs.Limits.{mostObjects, mostImplications, badLength}
-use Rattle.machine.specs.Checks.{State, firstFailing, strange, strangeObject, strangeImplication, outsideM, sessionChecks, yesChecks, badRow, testChecks, filingChecks, noChecks, force, question, questionStands, withQuestion, whole, tight, open-question}
+use Rattle.machine.specs.Checks.{State, firstFailing, strange, strangeObject, strangeImplication, outsideM, sessionChecks, yesChecks, badRow, testChecks, filingChecks, fillChecks, noChecks, force, question, questionStands, withQuestion, whole, tight, open-question}
 use Rattle.machine.specs.Checks.Laws.{or-false, passed, none-failing, failing-here, failing-later, failing-append, passed-append, no-both, InM, valid, familiar-object, familiar-implication, standing-cases, Stands, stands}
-use Rattle.machine.specs.Machine.{Call, accept, reject, test, file, taken, refuting, refused, performed, checksOf, perform}
+use Rattle.machine.specs.Machine.{Call, accept, reject, test, file, fill, taken, refuting, refused, performed, checksOf, perform}
 use Rattle.machine.specs.Machine.Laws.{perform-accepted, perform-refused, Answers, answered-passing}
-use Rattle.machine.specs.Facts.{Places, Fine, YesFits, TestFits, FilingFits, NoFits}
+use Rattle.machine.specs.Facts.{Places, Fine, YesFits, TestFits, FilingFits, FillFits, NoFits}
 
 or-both : (a b : Bool) → a ≡ false → b ≡ false → (a || b) ≡ false
 or-both false b e f = f
@@ -167,6 +169,32 @@ module _ (s : State) where
     filing-checks f =
         none-failing (filingChecks s o) (good-row (f .inside) (f .once), (apart-contradicts (force s) o (f .consistent), (lt-leb _ _ (f .place), tt)))
 
+    -- of a filling of row k with the marks of o
+    module _ (k : ℕ) where
+      abbrev row : Object
+      row = joined (objectAt (s .rows) k) o
+
+      pub checks-fill : firstFailing (fillChecks s k o) ≡ none → FillFits s k o
+      unfolding fillChecks
+      checks-fill e =
+          let p = passed (fillChecks s k o) e in
+          let nine = or-false (strangeObject (s .n) o) _ (p .1 .0) in
+          let kept = unreversed (objectAt (s .rows) k) o (p .1 .1 .0) in
+          record {
+            used = leb-false _ _ (p .0);
+            inside = familiar-object (s .n) o (nine .0);
+            once = marked-apart o (nine .1);
+            yes-stays = kept .0;
+            no-stays = kept .1;
+            consistent = contradicts-apart (force s) row (p .1 .1 .1 .0);
+          }
+
+      pub fill-checks : FillFits s k o → firstFailing (fillChecks s k o) ≡ none
+      unfolding fillChecks
+      fill-checks f =
+          let kept = not-reversing (objectAt (s .rows) k) o (f .yes-stays) (f .no-stays) in
+          none-failing (fillChecks s k o) (lt-leb _ _ (f .used), (good-row (f .inside) (f .once), (kept, (apart-contradicts (force s) row (f .consistent), tt))))
+
     -- a no fits where the test and the filing do
     pub both-fit : TestFits s o → FilingFits s o → NoFits s o
     both-fit t f = record {
@@ -260,3 +288,18 @@ module _ (s : State) where
     filing-taken f y =
         let e = failing-append (sessionChecks s []) (filingChecks s o) (passed _ (fine-checks s [] f (all-nil _))) ∙ filing-checks s o y in
         ap (λ t. t .answer) (perform-accepted s (file o) e)
+
+    -- ---- a filling of row k, in use: of a row of the opening or one filed later, and whether or not a question stands
+
+    module _ (k : ℕ) where
+      pub taken-fill : perform s (fill k o) .answer ≡ taken → Fine s × FillFits s k o
+      unfolding checksOf
+      taken-fill h =
+          let p = passed-append (sessionChecks s []) (fillChecks s k o) (taken-passed s (fill k o) h) in
+          (checks-fine s [] (none-failing _ (p .0)) .0, checks-fill s o k (none-failing _ (p .1)))
+
+      pub fill-taken : Fine s → FillFits s k o → perform s (fill k o) .answer ≡ taken
+      unfolding checksOf performed
+      fill-taken f y =
+          let e = failing-append (sessionChecks s []) (fillChecks s k o) (passed _ (fine-checks s [] f (all-nil _))) ∙ fill-checks s o k y in
+          ap (λ t. t .answer) (perform-accepted s (fill k o) e)

@@ -1,7 +1,8 @@
 -- The place of a refusal (01, "Refusals in checking order"): in 5, in 6 and in 11 for a yes the lowest row of which the check speaks, else 0.
--- `right-place` says so of every refused call, and `opening-place` of a refused opening; `small-number` and `opening-number`, that the
--- numbers are 1 to 12, and 1 to 7 at the opening.
+-- `right-place` says so of every refused call, and `opening-place` of a refused opening; `known-number` and `opening-number`, that the
+-- numbers are 1 to 12, 32 and 33, the last two of a filling alone, and 1 to 7 at the opening.
 use mathlib.Core.Path.{_≡_, refl, sym, ap, _∙_, subst}
+use mathlib.Core.Logic.{_⊎_, inl, inr}
 use mathlib.Core.Bool.{Bool, true, false}
 use mathlib.Core.List.{List, [], _∷_, List·Memᴰ·head, List·Memᴰ·tail}
 use mathlib.Core.Option.{Option, none, some, Option·some-ne-none}
@@ -17,10 +18,10 @@ use Rattle.context.specs.Places.Laws.{lowest-at}
 use Rattle.context.specs.Objects.{Object, markedTwice, contradicts}
 use Rattle.session.specs.declared.Refusal.{Refusal}
 use Rattle.session.specs.Refusals.{refusal}
-use Rattle.machine.specs.Checks.{Lent, State, Check, firstFailing, sessionChecks, yesChecks, testChecks, filingChecks, force, withQuestion}
-use Rattle.machine.specs.Machine.{Call, step, accept, reject, follow, refute, test, file, refused, checksOf, perform, Opening, opened, rejected, opening, openingState}
+use Rattle.machine.specs.Checks.{Lent, State, Check, firstFailing, sessionChecks, yesChecks, testChecks, filingChecks, fillChecks, force, withQuestion}
+use Rattle.machine.specs.Machine.{Call, step, accept, reject, follow, refute, test, file, fill, refused, checksOf, perform, Opening, opened, rejected, opening, openingState}
 use Rattle.machine.specs.Machine.Laws.{refused-failing}
-use Rattle.machine.specs.Facts.Kept.{failing-number, test-numbers, filing-numbers}
+use Rattle.machine.specs.Facts.Kept.{failing-number, test-numbers, filing-numbers, FillNumber, fill-numbers}
 
 -- the lowest place of a list at which a test holds
 pub record Lowest {A : Type 0} (f : A → Bool) (l : List A) (place : ℕ) : Type 0 where
@@ -92,7 +93,10 @@ test-is-no-yes o e = let z : _≡_ {A = ℕ} 0 1 = cc in omega arith
 filing-is-no-yes : (o : Object) → file o ≡ accept → ⊥
 filing-is-no-yes o e = let z : _≡_ {A = ℕ} 0 1 = cc in omega arith
 
--- of a test, a filing and a no, calls that are no yes: every place is 0
+fill-is-no-yes : (k : ℕ) (m : Object) → fill k m ≡ accept → ⊥
+fill-is-no-yes k m e = let z : _≡_ {A = ℕ} 0 1 = cc in omega arith
+
+-- of a test, a filing, a no and a filling, calls that are no yes: every place is 0
 module _ (s : State) (c : Call) (other : c ≡ accept → ⊥) (o : Object) where
   at : (k : ℕ) → 7 < k → RightPlace s c (refusal k 0)
   at k h = late s c k h (λ e _. other e)
@@ -104,6 +108,11 @@ module _ (s : State) (c : Call) (other : c ≡ accept → ⊥) (o : Object) wher
   filing-places : All (λ x. x .fails ≡ true → RightPlace s c (refusal (x .number) (x .place))) (filingChecks s o)
   unfolding filingChecks
   filing-places = all-cons (λ _. at 9 (omega arith)) (all-cons (λ _. at 11 (omega arith)) (all-cons (λ _. at 12 (omega arith)) (all-nil _)))
+
+  fill-places : (k : ℕ) → All (λ x. x .fails ≡ true → RightPlace s c (refusal (x .number) (x .place))) (fillChecks s k o)
+  unfolding fillChecks
+  fill-places k =
+      all-cons (λ _. at 32 (omega arith)) (all-cons (λ _. at 9 (omega arith)) (all-cons (λ _. at 33 (omega arith)) (all-cons (λ _. at 11 (omega arith)) (all-nil _))))
 
 all-places : (s : State) (c : Call) → All (λ x. x .fails ≡ true → RightPlace s c (refusal (x .number) (x .place))) (checksOf s c)
 unfolding checksOf
@@ -119,6 +128,8 @@ all-places s (test o) =
     all-append (sessionChecks s []) (testChecks s o) (session-places s (test o) []) (test-places s (test o) (test-is-no-yes o) o)
 all-places s (file o) =
     all-append (sessionChecks s []) (filingChecks s o) (session-places s (file o) []) (filing-places s (file o) (filing-is-no-yes o) o)
+all-places s (fill k m) =
+    all-append (sessionChecks s []) (fillChecks s k m) (session-places s (fill k m) []) (fill-places s (fill k m) (fill-is-no-yes k m) m k)
 
 pub right-place : (s : State) (c : Call) (r : Refusal) → perform s c .answer ≡ refused r → RightPlace s c r
 right-place s c r h = failing-check (RightPlace s c) (checksOf s c) (all-places s c) r (refused-failing s c r h)
@@ -138,31 +149,63 @@ yes-numbers : (s : State) → All (λ x. Between 1 12 (x .number)) (yesChecks s)
 unfolding yesChecks
 yes-numbers s = all-cons (omega arith) (all-cons (omega arith) (all-cons (omega arith) (all-nil _)))
 
-all-numbers : (s : State) (c : Call) → All (λ x. Between 1 12 (x .number)) (checksOf s c)
+-- the numbers that a call may be refused with
+abbrev pub KnownNumber : Call → ℕ → Type 0
+KnownNumber step k = Between 1 7 k
+KnownNumber accept k = Between 1 12 k
+KnownNumber (reject o) k = Between 1 12 k
+KnownNumber (follow q) k = Between 1 7 k
+KnownNumber (refute q) k = Between 1 7 k
+KnownNumber (test o) k = Between 1 10 k
+KnownNumber (file o) k = Between 1 12 k
+KnownNumber (fill r m) k = Between 1 7 k ⊎ FillNumber k
+
+all-numbers : (s : State) (c : Call) → All (λ x. KnownNumber c (x .number)) (checksOf s c)
 unfolding checksOf
 all-numbers s c = go c
   where
-    early : (asked : List (Implication ℕ)) → All (λ x. Between 1 12 (x .number)) (sessionChecks s asked)
-    early asked x m = let h = session-numbers s asked x m in omega arith
+    early : (b : ℕ) → 7 ≤ b → (asked : List (Implication ℕ)) → All (λ x. Between 1 b (x .number)) (sessionChecks s asked)
+    early b le asked x m = let h = session-numbers s asked x m in (h .0, omega (arith, h .1, le))
 
-    tested : (o : Object) → All (λ x. Between 1 12 (x .number)) (testChecks s o)
-    tested o x m = let h = test-numbers s o x m in omega arith
+    tested : (b : ℕ) → 10 ≤ b → (o : Object) → All (λ x. Between 1 b (x .number)) (testChecks s o)
+    tested b le o x m = let h = test-numbers s o x m in (omega (arith, h .0), omega (arith, h .1, le))
 
     filed : (o : Object) → All (λ x. Between 1 12 (x .number)) (filingChecks s o)
     filed o x m = let h = filing-numbers s o x m in (omega (arith, h .0), h .1)
 
-    go : (d : Call) → All (λ x. Between 1 12 (x .number)) (checksOf s d)
-    go step = early []
-    go accept = all-append (sessionChecks s []) (yesChecks s) (early []) (yes-numbers s)
+    go : (d : Call) → All (λ x. KnownNumber d (x .number)) (checksOf s d)
+    go step = session-numbers s []
+    go accept = all-append (sessionChecks s []) (yesChecks s) (early 12 (omega arith) []) (yes-numbers s)
     go (reject o) =
-        all-append (sessionChecks s []) _ (early []) (all-append (testChecks s o) (filingChecks s o) (tested o) (filed o))
-    go (follow q) = early (q ∷ [])
-    go (refute q) = early (q ∷ [])
-    go (test o) = all-append (sessionChecks s []) (testChecks s o) (early []) (tested o)
-    go (file o) = all-append (sessionChecks s []) (filingChecks s o) (early []) (filed o)
+        all-append (sessionChecks s []) _ (early 12 (omega arith) [])
+        (all-append (testChecks s o) (filingChecks s o) (tested 12 (omega arith) o) (filed o))
+    go (follow q) = session-numbers s (q ∷ [])
+    go (refute q) = session-numbers s (q ∷ [])
+    go (test o) = all-append (sessionChecks s []) (testChecks s o) (early 10 (omega arith) []) (tested 10 (omega arith) o)
+    go (file o) = all-append (sessionChecks s []) (filingChecks s o) (early 12 (omega arith) []) (filed o)
+    go (fill k m) =
+        all-append (sessionChecks s []) (fillChecks s k m) (λ x t. inl (session-numbers s [] x t)) (λ x t. inr (fill-numbers s k m x t))
 
-pub small-number : (s : State) (c : Call) (r : Refusal) → perform s c .answer ≡ refused r → Between 1 12 (r .number)
-small-number s c r h = failing-number (Between 1 12) (checksOf s c) (all-numbers s c) r (refused-failing s c r h)
+pub known-number : (s : State) (c : Call) (r : Refusal) → perform s c .answer ≡ refused r → KnownNumber c (r .number)
+known-number s c r h = failing-number (KnownNumber c) (checksOf s c) (all-numbers s c) r (refused-failing s c r h)
+
+fill-small : All (λ k. k < 100) (32 ∷ 9 ∷ 33 ∷ 11 ∷ [])
+fill-small = all-cons (omega arith) (all-cons (omega arith) (all-cons (omega arith) (all-cons (omega arith) (all-nil _))))
+
+-- so that it is below 100
+pub small-number : (s : State) (c : Call) (r : Refusal) → perform s c .answer ≡ refused r → r .number < 100
+small-number s c r h = go c (known-number s c r h)
+  where
+    go : (d : Call) → KnownNumber d (r .number) → r .number < 100
+    go step n = omega (arith, n .1)
+    go accept n = omega (arith, n .1)
+    go (reject o) n = omega (arith, n .1)
+    go (follow q) n = omega (arith, n .1)
+    go (refute q) n = omega (arith, n .1)
+    go (test o) n = omega (arith, n .1)
+    go (file o) n = omega (arith, n .1)
+    go (fill k m) (inl n) = omega (arith, n .1)
+    go (fill k m) (inr n) = fill-small (r .number) n
 
 -- ---- the opening
 

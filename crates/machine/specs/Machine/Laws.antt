@@ -4,17 +4,18 @@ use mathlib.Core.Path.{_≡_, refl, ap, _∙_, subst}
 use mathlib.Core.Bool.{Bool, true, false}
 use mathlib.Core.List.{List, []}
 use mathlib.Core.Option.{Option, none, some}
-use Prim.Native.Nat.{ℕ}
+use Prim.Native.Nat.{ℕ, _<_}
 use native.Mathlib.Omega.{arith}
 use lib.ListN.{length}
 use lib.Dec.{ltb}
+use borrow.Author.Tests.{leb-false}
 use Rattle.theory.specs.Implications.{Implication}
 use Rattle.attribute_set.specs.Sets.{full}
 use Rattle.context.specs.Objects.{Object, firstRefuting}
 use Rattle.session.specs.declared.Refusal.{Refusal}
-use Rattle.machine.specs.Checks.{Lent, State, firstFailing, sessionChecks, force, reachOf, whole, tight, open-question, question}
-use Rattle.machine.specs.Checks.Laws.{standing-cases}
-use Rattle.machine.specs.Machine.{Call, step, accept, reject, follow, refute, test, file, Answer, finished, moved, asked, taken, followed, refuted, unrefuted, refuting, refused, Turn, turn, afterMove, refutedAt, performStep, performed, checksOf, perform, Opening, opened, rejected, opening, openingState}
+use Rattle.machine.specs.Checks.{Lent, State, firstFailing, sessionChecks, fillChecks, force, reachOf, whole, tight, open-question, question}
+use Rattle.machine.specs.Checks.Laws.{passed-append, standing-cases}
+use Rattle.machine.specs.Machine.{Call, step, accept, reject, follow, refute, test, file, fill, Answer, finished, moved, asked, taken, followed, refuted, unrefuted, refuting, refused, Turn, turn, afterMove, refutedAt, performStep, performed, checksOf, perform, Opening, opened, rejected, opening, openingState}
 
 module _ (s : State) (c : Call) where
   pub perform-cases : (P : Turn → Type 0) → (firstFailing (checksOf s c) ≡ none → P (performed s c))
@@ -99,6 +100,7 @@ performed-answers s (follow q) = tt
 performed-answers s (refute q) = refuted-answers s q
 performed-answers s (test o) = tt
 performed-answers s (file o) = tt
+performed-answers s (fill k m) = tt
 
 -- a refused call is refused by the first of its checks that fails
 pub refused-failing : (s : State) (c : Call) (r : Refusal) → perform s c .answer ≡ refused r → firstFailing (checksOf s c) ≡ some r
@@ -109,6 +111,11 @@ refused-failing s c r =
 -- a call that is not refused passes its checks
 pub answered-passing : (s : State) (c : Call) → Answers (perform s c .answer) → firstFailing (checksOf s c) ≡ none
 answered-passing s c = perform-cases s c (λ t. Answers (t .answer) → firstFailing (checksOf s c) ≡ none) (λ e h. e) (λ r e h. absurd h)
+
+-- a filling that passes its checks names a row in use
+pub fill-used : (s : State) (k : ℕ) (m : Object) → firstFailing (checksOf s (fill k m)) ≡ none → k < length (s .rows)
+unfolding checksOf fillChecks
+fill-used s k m e = leb-false (length (s .rows)) k (passed-append (sessionChecks s []) (fillChecks s k m) e .1 .0)
 
 -- ---- the opening
 

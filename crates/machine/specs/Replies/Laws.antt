@@ -1,19 +1,25 @@
--- The rows of a run are those at its start, then the offered objects of the accepted no calls and filings in order; its list
--- is the list at its start, then the questions of the accepted yes calls in order. n, lent lengths and background stay as they are.
+-- The rows of a run are those at its start, then the offered objects of the accepted no calls and filings in order, each with the marks of the
+-- accepted fillings of its number; its list is the list at its start, then the questions of the accepted yes calls in order. n, lent lengths
+-- and background stay as they are. A row that no filling names stays as it is (`unfilled`).
 -- All for every state and every list of calls.
 use mathlib.Core.Path.{_≡_, refl, sym, ap, _∙_}
 use mathlib.Core.Bool.{Bool, true, false}
-use mathlib.Core.List.{List, [], _∷_, _++_, append-assoc, append-nil}
+use mathlib.Core.List.{List, [], _∷_, _++_, append-assoc, append-nil, List·Memᴰ·head, List·Memᴰ·tail}
 use mathlib.Core.Option.{none, some}
 use Prim.Native.Nat.{ℕ}
+use lib.ListN.{length}
 use lib.Dec.{ltb}
 use borrow.Author.Tests.{not-false}
+use Rattle.theory.specs.Lists.{All}
 use Rattle.implication.specs.Closure.{follows}
+use Rattle.context.specs.Objects.{Object}
+use Rattle.context.specs.Filling.{objectAt, filledAt}
+use Rattle.context.specs.Filling.Laws.{filled-append, length-filled, filled-other}
 use Rattle.machine.specs.Checks.{State, force, question, firstFailing, sessionChecks, yesChecks}
 use Rattle.machine.specs.Checks.Laws.{passed-append, none-failing, Stands, stands}
-use Rattle.machine.specs.Machine.{Call, step, accept, reject, follow, refute, test, file, Answer, finished, moved, asked, followed, refuted, unrefuted, refuting, refused, Turn, turn, performed, checksOf, perform, run, refutedAt}
-use Rattle.machine.specs.Machine.Laws.{perform-cases, perform-accepted, step-cases}
-use Rattle.machine.specs.Replies.{Reply, agreed, offered, askedBy, questionAt, isTaken, agreedTo, madeBy, replyOf, replies, agreedIn, offeredIn}
+use Rattle.machine.specs.Machine.{Call, step, accept, reject, follow, refute, test, file, fill, Answer, finished, moved, asked, followed, refuted, unrefuted, refuting, refused, Turn, turn, performed, checksOf, perform, run, refutedAt}
+use Rattle.machine.specs.Machine.Laws.{perform-cases, perform-accepted, fill-used, step-cases}
+use Rattle.machine.specs.Replies.{Reply, agreed, offered, filled, askedBy, questionAt, isTaken, agreedTo, madeBy, replyOf, replies, agreedIn, offeredIn, filledBy, FillsOther}
 
 -- ---- what no call alters
 
@@ -35,6 +41,7 @@ perform-same s c = perform-cases s c (λ t. Same s (t .after)) (λ e. performed-
     performed-same (refute r) = record { n = refl; lent = refl; background = refl }
     performed-same (test o) = record { n = refl; lent = refl; background = refl }
     performed-same (file o) = record { n = refl; lent = refl; background = refl }
+    performed-same (fill k m) = record { n = refl; lent = refl; background = refl }
 
 pub run-same : (s : State) (calls : List Call) → Same s (run s calls)
 unfolding run
@@ -51,12 +58,36 @@ unfolding offeredIn
 offered-append [] ys = refl
 offered-append (agreed q ∷ xs) ys = offered-append xs ys
 offered-append (offered o ∷ xs) ys = ap (λ l. o ∷ l) (offered-append xs ys)
+offered-append (filled k m ∷ xs) ys = offered-append xs ys
 
 agreed-append : (xs ys : List Reply) → agreedIn (xs ++ ys) ≡ agreedIn xs ++ agreedIn ys
 unfolding agreedIn
 agreed-append [] ys = refl
 agreed-append (agreed q ∷ xs) ys = ap (λ l. q ∷ l) (agreed-append xs ys)
 agreed-append (offered o ∷ xs) ys = agreed-append xs ys
+agreed-append (filled k m ∷ xs) ys = agreed-append xs ys
+
+filled-in-turn : (xs ys : List Reply) (os : List Object) → filledBy (xs ++ ys) os ≡ filledBy ys (filledBy xs os)
+unfolding filledBy
+filled-in-turn [] ys os = refl
+filled-in-turn (agreed q ∷ xs) ys os = filled-in-turn xs ys os
+filled-in-turn (offered o ∷ xs) ys os = filled-in-turn xs ys os
+filled-in-turn (filled k m ∷ xs) ys os = filled-in-turn xs ys (filledAt k m os)
+
+pub length-filled-by : (rs : List Reply) (os : List Object) → length (filledBy rs os) ≡ length os
+unfolding filledBy
+length-filled-by [] os = refl
+length-filled-by (agreed q ∷ rs) os = length-filled-by rs os
+length-filled-by (offered o ∷ rs) os = length-filled-by rs os
+length-filled-by (filled k m ∷ rs) os = length-filled-by rs (filledAt k m os) ∙ length-filled m k os
+
+pub unfilled : (k : ℕ) (rs : List Reply) (os : List Object) → All (FillsOther k) rs → objectAt (filledBy rs os) k ≡ objectAt os k
+unfolding filledBy
+unfilled k [] os h = refl
+unfilled k (agreed q ∷ rs) os h = unfilled k rs os (λ r t. h r (List·Memᴰ·tail t))
+unfilled k (offered o ∷ rs) os h = unfilled k rs os (λ r t. h r (List·Memᴰ·tail t))
+unfilled k (filled j m ∷ rs) os h =
+    unfilled k rs (filledAt j m os) (λ r t. h r (List·Memᴰ·tail t)) ∙ filled-other m j k os (h (filled j m) (List·Memᴰ·head refl))
 
 -- ---- one call
 
@@ -71,18 +102,18 @@ question-asked s e h =
 abbrev pub replyAt : State → Call → Turn → List Reply
 replyAt s c t = elim (isTaken (t .answer)) [ true ↦ madeBy s c | false ↦ [] ]
 
--- what one call adds to rows and list
+-- what one call adds to rows and list; of the rows also where others stand behind them
 pub record Adds (s : State) (c : Call) (t : Turn) : Type 0 where
-  pub rows : t .after .rows ≡ s .rows ++ offeredIn (replyAt s c t)
+  pub rows : (more : List Object) → t .after .rows ++ more ≡ filledBy (replyAt s c t) (s .rows ++ (offeredIn (replyAt s c t) ++ more))
   pub list : t .after .list ≡ s .list ++ agreedIn (replyAt s c t)
 
 adds-nothing : (s : State) (c : Call) (a : Answer) (s′ : State) → isTaken a ≡ false → s′ .rows ≡ s .rows → s′ .list ≡ s .list
     → Adds s c (turn a s′)
-unfolding offeredIn agreedIn
+unfolding offeredIn agreedIn filledBy
 adds-nothing s c a s′ e r l =
     let none′ : replyAt s c (turn a s′) ≡ [] = ap (λ b. elim b as (λ x. List Reply) [ true ↦ madeBy s c | false ↦ [] ]) e in
     record {
-      rows = r ∙ sym (append-nil (s .rows)) ∙ ap (λ l. s .rows ++ offeredIn l) (sym none′);
+      rows = λ more. ap (λ l. l ++ more) r ∙ ap (λ l. filledBy l (s .rows ++ (offeredIn l ++ more))) (sym none′);
       list = l ∙ sym (append-nil (s .list)) ∙ ap (λ l. s .list ++ agreedIn l) (sym none′);
     }
 
@@ -95,21 +126,22 @@ refuted-untaken p k = go (ltb p k)
     go false = refl
 
 performed-adds : (s : State) (c : Call) → firstFailing (checksOf s c) ≡ none → Adds s c (performed s c)
-unfolding performed checksOf isTaken madeBy offeredIn agreedIn yesChecks
+unfolding performed checksOf isTaken madeBy offeredIn agreedIn filledBy yesChecks
 performed-adds s step e = step-cases s (Adds s step) (λ f. adds-nothing s step finished s refl refl refl)
     (λ a b. adds-nothing s step moved _ refl refl refl) (λ a b. adds-nothing s step (asked (question s)) s refl refl refl)
 performed-adds s accept e =
     let p = passed-append (sessionChecks s []) (yesChecks s) e in
     let q = question-asked s (none-failing (sessionChecks s []) (p .0)) (stands s (not-false _ (p .1 .0))) in
     record {
-      rows = sym (append-nil (s .rows)) ∙ ap (λ o. s .rows ++ offeredIn (agreedTo o)) (sym q);
+      rows = λ more. ap (λ o. filledBy (agreedTo o) (s .rows ++ (offeredIn (agreedTo o) ++ more))) (sym q);
       list = ap (λ o. s .list ++ agreedIn (agreedTo o)) (sym q);
     }
-performed-adds s (reject o) e = record { rows = refl; list = sym (append-nil (s .list)) }
+performed-adds s (reject o) e = record { rows = append-assoc (s .rows) (o ∷ []); list = sym (append-nil (s .list)) }
 performed-adds s (follow r) e = adds-nothing s (follow r) (followed (follows (force s) r)) s refl refl refl
 performed-adds s (refute r) e = adds-nothing s (refute r) _ s (refuted-untaken _ _) refl refl
 performed-adds s (test o) e = adds-nothing s (test o) refuting s refl refl refl
-performed-adds s (file o) e = record { rows = refl; list = sym (append-nil (s .list)) }
+performed-adds s (file o) e = record { rows = append-assoc (s .rows) (o ∷ []); list = sym (append-nil (s .list)) }
+performed-adds s (fill k m) e = record { rows = λ more. filled-append m k (s .rows) more (fill-used s k m e); list = sym (append-nil (s .list)) }
 
 pub perform-adds : (s : State) (c : Call) → Adds s c (perform s c)
 unfolding isTaken
@@ -117,14 +149,15 @@ perform-adds s c = perform-cases s c (Adds s c) (performed-adds s c) (λ r e. ad
 
 -- ---- a run
 
-pub run-rows : (s : State) (calls : List Call) → run s calls .rows ≡ s .rows ++ offeredIn (replies s calls)
-unfolding run replies replyOf offeredIn
+pub run-rows : (s : State) (calls : List Call) → run s calls .rows ≡ filledBy (replies s calls) (s .rows ++ offeredIn (replies s calls))
+unfolding run replies replyOf offeredIn filledBy
 run-rows s [] = sym (append-nil (s .rows))
 run-rows s (c ∷ calls) =
-    run-rows (perform s c .after) calls
-    ∙ ap (λ l. l ++ offeredIn (replies (perform s c .after) calls)) (perform-adds s c .rows)
-    ∙ append-assoc (s .rows) (offeredIn (replyOf s c)) (offeredIn (replies (perform s c .after) calls))
-    ∙ ap (λ l. s .rows ++ l) (sym (offered-append (replyOf s c) (replies (perform s c .after) calls)))
+    let first = replyOf s c in
+    let later = replies (perform s c .after) calls in
+    run-rows (perform s c .after) calls ∙ ap (filledBy later) (perform-adds s c .rows (offeredIn later))
+    ∙ sym (filled-in-turn first later (s .rows ++ (offeredIn first ++ offeredIn later)))
+    ∙ ap (λ l. filledBy (first ++ later) (s .rows ++ l)) (sym (offered-append first later))
 
 pub run-list : (s : State) (calls : List Call) → run s calls .list ≡ s .list ++ agreedIn (replies s calls)
 unfolding run replies replyOf agreedIn

@@ -1,7 +1,8 @@
 -- The reach is the largest subset X of M for which no object refutes P → X: it lies inside M (`reach-inside`), no object
 -- refutes P → reach (`reach-spared`), and each such X lies inside it (`reach-largest`).
--- One object more leaves less, and objects that lack nothing change nothing.
+-- One object more leaves less, so do marks that become known, and objects that lack nothing change nothing.
 use mathlib.Core.Path.{_≡_, refl, sym, ap, _∙_}
+use mathlib.Core.Logic.{_⊎_, inl, inr}
 use mathlib.Core.Bool.{false}
 use mathlib.Core.List.{List, [], _∷_, _++_, List·Memᴰ, List·Memᴰ·head, List·Memᴰ·tail}
 use Prim.Native.Nat.{ℕ}
@@ -13,6 +14,8 @@ use Rattle.implication.specs.Closure.{implication}
 use Rattle.implication.specs.Pairs.Laws.{pairs-whole}
 use Rattle.context.specs.Objects.{Object, object, objectsOf, has, lacks, refutes}
 use Rattle.context.specs.Objects.Laws.{has-more, lacks-more, whole, unmarked-lacks, lacks-none, not-refutes, spares}
+use Rattle.context.specs.Filling.{joined, filledAt}
+use Rattle.context.specs.Filling.Laws.{has-joined, lacks-joined, filled-member}
 use Rattle.context.specs.Parts.{refutedPart}
 use Rattle.context.specs.Parts.Laws.{part-taken, part-left}
 use Rattle.reach.specs.Reach.{cut, narrow, reach}
@@ -110,6 +113,18 @@ module _ (rs : List (Implication ℕ)) (n : ℕ) (os : List Object) (p : ℕ) wh
   pub reach-snoc : (o : Object) → Sub (reach rs n (os ++ (o ∷ [])) p) (reach rs n os p)
   unfolding reach
   reach-snoc o = rw (narrow-append rs p os (o ∷ []) (full n)) (narrow-inside rs p (o ∷ []) (narrow rs p os (full n)))
+
+-- with marks added to an object the reach is no larger
+pub reach-filled : (rs : List (Implication ℕ)) (n : ℕ) (os : List Object) (p k : ℕ) (m : Object) → Sub (reach rs n (filledAt k m os) p) (reach rs n os p)
+reach-filled rs n os p k m = reach-great rs n os p (reach-inside rs n filled p) (λ o t h. spared o h (filled-member m k os o t))
+  where
+    filled : List Object
+    filled = filledAt k m os
+
+    spared : (o : Object) → Sub p (has rs o) → List·Memᴰ o filled ⊎ List·Memᴰ (joined o m) filled → Apart (reach rs n filled p) (lacks rs o)
+    spared o h (inl t) = reach-apart rs n filled p o t h
+    spared o h (inr t) =
+        apart-sub (sub-refl (reach rs n filled p)) (lacks-joined rs o m) (reach-apart rs n filled p (joined o m) t (sub-trans h (has-joined rs o m)))
 
 -- what is counted past the whole objects of a slice changes no reach
 pub reach-whole : (rs : List (Implication ℕ)) (n count : ℕ) (ws : List ℕ) (p : ℕ)

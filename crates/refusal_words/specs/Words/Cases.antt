@@ -7,14 +7,14 @@ pub sentence-1 : sentence 1 ≡ bytes "The session has no property, or more than
 unfolding bytes joined lineNumber
 sentence-1 = refl
 
-pub sentence-31 : sentence 31 ≡ bytes "The percentage is above 99: ask for 0 to 99."
+pub sentence-33 : sentence 33 ≡ bytes "A yes would become a no, or a no a yes: take the mark out of those offered; a mark once known stays."
 unfolding bytes joined lineNumber
-sentence-31 = refl
+sentence-33 = refl
 
 pub sentence-13 : sentence 13 ≡ []
 unfolding bytes joined lineNumber
 sentence-13 = refl
 
-pub sentence-32 : sentence 32 ≡ []
+pub sentence-34 : sentence 34 ≡ []
 unfolding bytes joined lineNumber
-sentence-32 = refl
+sentence-34 = refl

@@ -10,7 +10,7 @@ use Rattle.implication.specs.Pairs.Laws.{length-pairs}
 use Rattle.implication.specs.Closure.{implication}
 use Rattle.context.specs.Objects.{object, objectsOf}
 use Rattle.machine.specs.Checks.{State}
-use Rattle.machine.specs.Machine.{Call, step, accept, reject, follow, refute, test, file, perform, run}
+use Rattle.machine.specs.Machine.{Call, step, accept, reject, follow, refute, test, file, fill, perform, run}
 use Rattle.machine.specs.Facts.{Fine}
 use Rattle.machine.specs.Facts.Kept.{never-bad}
 use Rattle.answer_words.specs.Codes.{coded}
@@ -75,22 +75,23 @@ module _ {n : ℕ} {background : List ℕ} (i : Interview n background) where
 
 -- ---- every list of calls is a log
 
--- three words more are one call more
-three-more : (k a b : ℕ) (ws : List ℕ) → logOf (k ∷ a ∷ b ∷ ws) ≡ callOf k a b ∷ logOf ws
+-- four words more are one call more
+four-more : (k a b c : ℕ) (ws : List ℕ) → logOf (k ∷ a ∷ b ∷ c ∷ ws) ≡ callOf k a b c ∷ logOf ws
 unfolding callsOf
-three-more k a b ws =
-    let e : suc (suc (suc (length ws))) / 3 ≡ suc (length ws / 3) = omega arith in
-    ap (λ m. callsOf m (k ∷ a ∷ b ∷ ws)) e
+four-more k a b c ws =
+    let e : suc (suc (suc (suc (length ws)))) / 4 ≡ suc (length ws / 4) = omega arith in
+    ap (λ m. callsOf m (k ∷ a ∷ b ∷ c ∷ ws)) e
 
 every-call : (c : Call) (ws : List ℕ) → logOf (wordsOf c ws) ≡ some c ∷ logOf ws
 unfolding callOf
-every-call step ws = three-more 0 0 0 ws
-every-call accept ws = three-more 1 0 0 ws
-every-call (reject o) ws = three-more 2 (o .yes-marks) (o .no-marks) ws
-every-call (follow r) ws = three-more 3 (r .premise) (r .conclusion) ws
-every-call (refute r) ws = three-more 4 (r .premise) (r .conclusion) ws
-every-call (test o) ws = three-more 5 (o .yes-marks) (o .no-marks) ws
-every-call (file o) ws = three-more 6 (o .yes-marks) (o .no-marks) ws
+every-call step ws = four-more 0 0 0 0 ws
+every-call accept ws = four-more 1 0 0 0 ws
+every-call (reject o) ws = four-more 2 (o .yes-marks) (o .no-marks) 0 ws
+every-call (follow r) ws = four-more 3 (r .premise) (r .conclusion) 0 ws
+every-call (refute r) ws = four-more 4 (r .premise) (r .conclusion) 0 ws
+every-call (test o) ws = four-more 5 (o .yes-marks) (o .no-marks) 0 ws
+every-call (file o) ws = four-more 6 (o .yes-marks) (o .no-marks) 0 ws
+every-call (fill k m) ws = four-more 7 k (m .yes-marks) (m .no-marks) ws
 
 pub every-log : (cs : List Call) → known (logOf (logWordsOf cs)) ≡ cs
 unfolding known callsOf

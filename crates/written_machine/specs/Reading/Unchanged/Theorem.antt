@@ -19,7 +19,7 @@ use Rattle.session.specs.declared.Refusal.{Refusal}
 use Rattle.written_marks.specs.Written.Laws.{refutes-written, reach-written}
 use Rattle.machine.specs.Checks.{State, force, reachOf, Standing, whole, tight, open-question, standing, questionStands, question, Check, check, firstFailing, badRow, sessionChecks, yesChecks, testChecks, filingChecks}
 use Rattle.machine.specs.Checks.Laws.{passed, failing-first, failing-behind, once-enough, Valid, valid, checked-small}
-use Rattle.machine.specs.Machine.{Call, step, accept, reject, follow, refute, test, file, finished, moved, asked, taken, refused, Turn, turn, afterMove, agreeing, afterFiling, refutedAt, performStep, performed, checksOf, perform}
+use Rattle.machine.specs.Machine.{Call, step, accept, reject, follow, refute, test, file, fill, finished, moved, asked, taken, refused, Turn, turn, afterMove, agreeing, afterFiling, refutedAt, performStep, performed, checksOf, perform}
 use Rattle.written_machine.specs.Reading.{writtenReach, writtenStanding, writtenStands, writtenQuestion, writtenYes, writtenNo, writtenTest, writtenStep, writtenPerformed, writtenChecks, writtenPerform}
 use Rattle.written_machine.specs.Reading.Unchanged.{OffersComplete, Unchanged}
 
@@ -126,6 +126,7 @@ module _ (s : State) (complete : All (Complete (s .n)) (s .rows)) where
   same-call (refute r) k = same-alone (r ∷ []) _ _ (λ e. ap (λ p. turn (refutedAt p (length (s .rows))) s) (same-first (r ∷ []) e r))
   same-call (test o) k = same-settled [] _ _ _ _ (λ e. (same-test [] e o (k .0) (k .1), refl))
   same-call (file o) k = refl
+  same-call (fill r m) k = refl
 
 pub unchanged : Unchanged
 unchanged = record { unchanged = λ s c complete k. same-call s complete c k }
