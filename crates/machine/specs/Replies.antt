@@ -5,10 +5,11 @@ use mathlib.Core.Bool.{Bool, true, false}
 use mathlib.Core.List.{List, [], _∷_, _++_}
 use mathlib.Core.Option.{Option, none, some}
 use Prim.Native.Nat.{ℕ}
+use lib.Dec.{eqb}
 use Rattle.theory.specs.Lists.{All}
 use Rattle.theory.specs.Implications.{Implication}
-use Rattle.context.specs.Objects.{Object}
-use Rattle.context.specs.Filling.{filledAt}
+use Rattle.context.specs.Objects.{Object, object}
+use Rattle.context.specs.Filling.{joined, filledAt}
 use Rattle.context.specs.Tables.{Table, AgreesObject, AgreesImplication}
 use Rattle.machine.specs.Checks.{State}
 use Rattle.machine.specs.Machine.{Call, step, accept, reject, follow, refute, test, file, fill, Answer, finished, moved, asked, taken, followed, refuted, unrefuted, refuting, refused, perform, run}
@@ -83,12 +84,19 @@ offeredIn (agreed q ∷ rs) = offeredIn rs
 offeredIn (offered o ∷ rs) = o ∷ offeredIn rs
 offeredIn (filled k m ∷ rs) = offeredIn rs
 
--- rows as filled: each with the marks of the accepted fillings of its number
+-- rows as filled: each with the marks of the accepted fillings of its number (`row-filled`)
 unfoldable pub filledBy : List Reply → List Object → List Object
 filledBy [] os = os
 filledBy (agreed q ∷ rs) os = filledBy rs os
 filledBy (offered o ∷ rs) os = filledBy rs os
 filledBy (filled k m ∷ rs) os = filledBy rs (filledAt k m os)
+
+-- the marks of the accepted fillings of row k, together
+unfoldable pub marksFor : ℕ → List Reply → Object
+marksFor k [] = object 0 0
+marksFor k (agreed q ∷ rs) = marksFor k rs
+marksFor k (offered o ∷ rs) = marksFor k rs
+marksFor k (filled j m ∷ rs) = elim (eqb k j) [ true ↦ joined m (marksFor k rs) | false ↦ marksFor k rs ]
 
 -- a reply that is no filling of row k
 abbrev pub FillsOther : ℕ → Reply → Type 0

@@ -1,5 +1,5 @@
 -- A filled object has and lacks no less than before (`has-joined`, `lacks-joined`), whatever implications are in force. In a list the filled
--- object alone is another (`filled-here`, `filled-other`), every member is there as it was or filled (`filled-member`), and what holds of all
+-- object alone is another (`filled-here`, `filled-other`), and none where its marks are known (`filled-known`); every member is there as it was or filled (`filled-member`), and what holds of all
 -- members and of the filled object holds of all members then (`all-filled`).
 use mathlib.Core.Path.{_≡_, refl, sym, ap, _∙_}
 use mathlib.Core.Logic.{_⊎_, inl, inr}
@@ -9,12 +9,12 @@ use Prim.Native.Nat.{ℕ, zero, suc, _^_, _<_}
 use native.Mathlib.Omega.{arith}
 use lib.ListN.{length, set, length-set, List·getD-append}
 use lib.Bits.{bitOr}
-use lib.Seq.{set-append-left, getD-set-same, getD-set-other}
+use lib.Seq.{set-append-left, getD-set-same, getD-set-other, set-getD}
 use Rattle.theory.specs.Lists.{All}
 use Rattle.theory.specs.Lists.Laws.{all-cons}
 use Rattle.theory.specs.Implications.{Implication}
 use Rattle.attribute_set.specs.Sets.{Sub, Apart, meets}
-use Rattle.attribute_set.specs.Sets.Laws.{sub-refl, sub-trans, or-left, or-right, or-least, apart-sub, meets-some, some-meets, meets-apart, apart-meets, without-apart, without-great}
+use Rattle.attribute_set.specs.Sets.Laws.{sub-refl, sub-trans, sub-antisym, or-left, or-right, or-least, or-inside, apart-sub, meets-some, some-meets, meets-apart, apart-meets, without-apart, without-great}
 use Rattle.implication.specs.Closure.Laws.{closure-mono}
 use Rattle.context.specs.Objects.{Object, object, has, lacks}
 use Rattle.context.specs.Objects.Laws.{lacks-meets, lacks-below, meets-lacks}
@@ -39,6 +39,23 @@ module _ (rs : List (Implication ℕ)) (o m : Object) where
       grown i =
           let both = bitOr (o .yes-marks) (m .yes-marks) in
           or-least (sub-trans (or-left (o .yes-marks) (m .yes-marks)) (or-left both (2 ^ i))) (or-right both (2 ^ i))
+
+-- three sets together
+or-in-turn : (x y z : ℕ) → bitOr (bitOr x y) z ≡ bitOr x (bitOr y z)
+or-in-turn x y z =
+    let right = or-right x (bitOr y z) in
+    let left = or-left (bitOr x y) z in
+    sub-antisym (or-least (or-least (or-left x (bitOr y z)) (sub-trans (or-left y z) right)) (sub-trans (or-right y z) right))
+    (or-least (sub-trans (or-left x y) left) (or-least (sub-trans (or-right x y) left) (or-right (bitOr x y) z)))
+
+-- to fill twice is to fill with both
+pub joined-in-turn : (o m p : Object) → joined (joined o m) p ≡ joined o (joined m p)
+joined-in-turn o m p =
+    λ i. object (or-in-turn (o .yes-marks) (m .yes-marks) (p .yes-marks) i) (or-in-turn (o .no-marks) (m .no-marks) (p .no-marks) i)
+
+-- marks that are known change nothing
+pub joined-known : (o m : Object) → Sub (m .yes-marks) (o .yes-marks) → Sub (m .no-marks) (o .no-marks) → joined o m ≡ o
+joined-known o m a b = λ i. object (or-inside a i) (or-inside b i)
 
 -- a set of two parts is apart from what both are apart from
 apart-or : {x y z : ℕ} → Apart x z → Apart y z → Apart (bitOr x y) z
@@ -100,6 +117,12 @@ module _ (m : Object) where
   pub filled-other : (k j : ℕ) (os : List Object) → (j ≡ k → ⊥) → objectAt (filledAt k m os) j ≡ objectAt os j
   unfolding filledAt
   filled-other k j os n = getD-set-other os k j _ (object 0 0) n
+
+  -- with marks that are known the list is as it was
+  pub filled-known : (k : ℕ) (os : List Object) → Sub (m .yes-marks) (objectAt os k .yes-marks) → Sub (m .no-marks) (objectAt os k .no-marks)
+      → filledAt k m os ≡ os
+  unfolding filledAt
+  filled-known k os a b = ap (set os k) (joined-known (objectAt os k) m a b) ∙ set-getD os k (object 0 0)
 
   -- every member is there as it was, or filled
   pub filled-member : (k : ℕ) (os : List Object) (o : Object) → List·Memᴰ o os

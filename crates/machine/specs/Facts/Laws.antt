@@ -3,12 +3,13 @@
 -- `test-checks`), those of a filing just where `FilingFits` does (`checks-filing`, `filing-checks`), and a no fits just where both do
 -- (`both-fit`, `fits-both`). So a reply is taken just where it fits (`yes-taken`, `taken-yes`, `no-taken`, `taken-no`), a test answers that the
 -- row refutes just where it fits (`test-refuting`, `refuting-test`; `test-ten`), and a filing is taken just where it fits (`filing-taken`,
--- `taken-filing`). The same of a filling (`checks-fill`, `fill-checks`; `fill-taken`, `taken-fill`).
+-- `taken-filing`). The same of a filling (`checks-fill`, `fill-checks`; `fill-taken`, `taken-fill`), which with
+-- marks that are known is taken and changes nothing (`fill-known`).
 use mathlib.Core.Path.{_≡_, refl, sym, ap, _∙_, subst}
 use mathlib.Core.Bool.{Bool, true, false, not, _||_}
 use mathlib.Core.List.{List, [], _++_}
 use mathlib.Core.Option.{none}
-use Prim.Native.Nat.{ℕ, _/_, _%_}
+use Prim.Native.Nat.{ℕ, _/_, _%_, _<_}
 use native.Mathlib.Omega.{arith}
 use lib.ListN.{length}
 use lib.Dec.{eqb, ltb}
@@ -16,20 +17,21 @@ use borrow.Author.Tests.{eqb-true, eqb-false, eq-eqb, not-false, ltb-false, le-l
 use Rattle.theory.specs.Lists.{All}
 use Rattle.theory.specs.Lists.Laws.{all-nil, all-append, all-drop}
 use Rattle.theory.specs.Implications.{Implication, Over}
-use Rattle.attribute_set.specs.Sets.{Apart, inside, full}
-use Rattle.attribute_set.specs.Sets.Laws.{sub-inside}
+use Rattle.attribute_set.specs.Sets.{Sub, Apart, inside, full}
+use Rattle.attribute_set.specs.Sets.Laws.{sub-refl, sub-trans, sub-inside, apart-sub}
 use Rattle.attribute_set.specs.Words.{words}
+use Rattle.implication.specs.Closure.{closure}
 use Rattle.context.specs.Places.{anywhere}
 use Rattle.context.specs.Places.Laws.{anywhere-false, all-anywhere}
 use Rattle.context.specs.Objects.{Object, refutes}
 use Rattle.context.specs.Objects.Laws.{marked-apart, apart-marked, contradicts-apart, apart-contradicts}
 use Rattle.context.specs.Filling.{joined, objectAt}
-use Rattle.context.specs.Filling.Laws.{unreversed, not-reversing}
+use Rattle.context.specs.Filling.Laws.{joined-known, unreversed, not-reversing, filled-known, object-member}
 use Rattle.session.specs.Refusals.{refusal}
 use Rattle.session.specs.Limits.{mostObjects, mostImplications, badLength}
 use Rattle.machine.specs.Checks.{State, firstFailing, strange, strangeObject, strangeImplication, outsideM, sessionChecks, yesChecks, badRow, testChecks, filingChecks, fillChecks, noChecks, force, question, questionStands, withQuestion, whole, tight, open-question}
 use Rattle.machine.specs.Checks.Laws.{or-false, passed, none-failing, failing-here, failing-later, failing-append, passed-append, no-both, InM, valid, familiar-object, familiar-implication, standing-cases, Stands, stands}
-use Rattle.machine.specs.Machine.{Call, accept, reject, test, file, fill, taken, refuting, refused, performed, checksOf, perform}
+use Rattle.machine.specs.Machine.{Call, accept, reject, test, file, fill, taken, refuting, refused, turn, performed, checksOf, perform}
 use Rattle.machine.specs.Machine.Laws.{perform-accepted, perform-refused, Answers, answered-passing}
 use Rattle.machine.specs.Facts.{Places, Fine, YesFits, TestFits, FilingFits, FillFits, NoFits}
 
@@ -303,3 +305,28 @@ module _ (s : State) where
       fill-taken f y =
           let e = failing-append (sessionChecks s []) (fillChecks s k o) (passed _ (fine-checks s [] f (all-nil _))) ∙ fill-checks s o k y in
           ap (λ t. t .answer) (perform-accepted s (fill k o) e)
+
+      -- marks that row k has may be offered again, all of them too: the filling is taken and leaves the state
+      pub fill-known : Fine s → k < length (s .rows) → Sub (o .yes-marks) (objectAt (s .rows) k .yes-marks)
+          → Sub (o .no-marks) (objectAt (s .rows) k .no-marks) → perform s (fill k o) ≡ turn taken s
+      unfolding checksOf performed
+      fill-known f used a b =
+          let had = object-member k (s .rows) used in
+          let once = f .once (objectAt (s .rows) k) had in
+          let same = joined-known (objectAt (s .rows) k) o a b in
+          let y : FillFits s k o = record {
+            used = used;
+            inside = record {
+              yes-marks = sub-trans a (f .rows-in (objectAt (s .rows) k) had .yes-marks);
+              no-marks = sub-trans b (f .rows-in (objectAt (s .rows) k) had .no-marks);
+            };
+            once = apart-sub a b once;
+            yes-stays = apart-sub (sub-refl _) b once;
+            no-stays = record { at = λ i x z. once .at i (a .at i z) x };
+            consistent = subst (λ p. Apart (closure (force s) (p .yes-marks)) (p .no-marks)) (sym same) (f .consistent (objectAt (s .rows) k) had);
+          } in
+          let e = failing-append (sessionChecks s []) (fillChecks s k o) (passed _ (fine-checks s [] f (all-nil _))) ∙ fill-checks s o k y in
+          perform-accepted s (fill k o) e ∙ ap (λ l. turn taken (withRows l)) (filled-known o k (s .rows) a b)
+        where
+          withRows : List Object → State
+          withRows l = record { n = s .n; lent = s .lent; background = s .background; rows = l; list = s .list; current = s .current }

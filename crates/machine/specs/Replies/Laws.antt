@@ -1,25 +1,27 @@
 -- The rows of a run are those at its start, then the offered objects of the accepted no calls and filings in order, each with the marks of the
 -- accepted fillings of its number; its list is the list at its start, then the questions of the accepted yes calls in order. n, lent lengths
--- and background stay as they are. A row that no filling names stays as it is (`unfilled`).
+-- and background stay as they are. A row as filled is the row with the marks of the fillings of its number (`row-filled`), and one that no
+-- filling names stays as it is (`unfilled`).
 -- All for every state and every list of calls.
-use mathlib.Core.Path.{_≡_, refl, sym, ap, _∙_}
+use mathlib.Core.Path.{_≡_, refl, sym, ap, _∙_, subst}
 use mathlib.Core.Bool.{Bool, true, false}
 use mathlib.Core.List.{List, [], _∷_, _++_, append-assoc, append-nil, List·Memᴰ·head, List·Memᴰ·tail}
 use mathlib.Core.Option.{none, some}
-use Prim.Native.Nat.{ℕ}
+use Prim.Native.Nat.{ℕ, _<_}
 use lib.ListN.{length}
-use lib.Dec.{ltb}
-use borrow.Author.Tests.{not-false}
+use lib.Dec.{eqb, ltb}
+use borrow.Author.Tests.{eqb-true, eqb-false, not-false}
 use Rattle.theory.specs.Lists.{All}
 use Rattle.implication.specs.Closure.{follows}
-use Rattle.context.specs.Objects.{Object}
-use Rattle.context.specs.Filling.{objectAt, filledAt}
-use Rattle.context.specs.Filling.Laws.{filled-append, length-filled, filled-other}
+use Rattle.attribute_set.specs.Sets.Laws.{none-sub}
+use Rattle.context.specs.Objects.{Object, object}
+use Rattle.context.specs.Filling.{joined, objectAt, filledAt}
+use Rattle.context.specs.Filling.Laws.{joined-in-turn, joined-known, filled-append, length-filled, filled-here, filled-other}
 use Rattle.machine.specs.Checks.{State, force, question, firstFailing, sessionChecks, yesChecks}
 use Rattle.machine.specs.Checks.Laws.{passed-append, none-failing, Stands, stands}
 use Rattle.machine.specs.Machine.{Call, step, accept, reject, follow, refute, test, file, fill, Answer, finished, moved, asked, followed, refuted, unrefuted, refuting, refused, Turn, turn, performed, checksOf, perform, run, refutedAt}
 use Rattle.machine.specs.Machine.Laws.{perform-cases, perform-accepted, fill-used, step-cases}
-use Rattle.machine.specs.Replies.{Reply, agreed, offered, filled, askedBy, questionAt, isTaken, agreedTo, madeBy, replyOf, replies, agreedIn, offeredIn, filledBy, FillsOther}
+use Rattle.machine.specs.Replies.{Reply, agreed, offered, filled, askedBy, questionAt, isTaken, agreedTo, madeBy, replyOf, replies, agreedIn, offeredIn, filledBy, marksFor, FillsOther}
 
 -- ---- what no call alters
 
@@ -80,6 +82,24 @@ length-filled-by [] os = refl
 length-filled-by (agreed q ∷ rs) os = length-filled-by rs os
 length-filled-by (offered o ∷ rs) os = length-filled-by rs os
 length-filled-by (filled k m ∷ rs) os = length-filled-by rs (filledAt k m os) ∙ length-filled m k os
+
+-- a row as filled is the row with the marks of the fillings of its number
+pub row-filled : (k : ℕ) (rs : List Reply) (os : List Object) → k < length os → objectAt (filledBy rs os) k ≡ joined (objectAt os k) (marksFor k rs)
+unfolding filledBy marksFor
+row-filled k [] os h = sym (joined-known (objectAt os k) (object 0 0) (none-sub _) (none-sub _))
+row-filled k (agreed q ∷ rs) os h = row-filled k rs os h
+row-filled k (offered o ∷ rs) os h = row-filled k rs os h
+row-filled k (filled j m ∷ rs) os h = row-filled k rs (filledAt j m os) (rw length-filled h) ∙ go (eqb k j) refl
+  where
+    later : Object
+    later = marksFor k rs
+
+    go : (b : Bool) → eqb k j ≡ b
+        → joined (objectAt (filledAt j m os) k) later ≡ joined (objectAt os k) (elim b as (λ x. Object) [ true ↦ joined m later | false ↦ later ])
+    go true e =
+        let here = subst (λ i. objectAt (filledAt i m os) k ≡ joined (objectAt os k) m) (eqb-true k j e) (filled-here m k os h) in
+        ap (λ o. joined o later) here ∙ joined-in-turn (objectAt os k) m later
+    go false e = ap (λ o. joined o later) (filled-other m j k os (eqb-false k j e))
 
 pub unfilled : (k : ℕ) (rs : List Reply) (os : List Object) → All (FillsOther k) rs → objectAt (filledBy rs os) k ≡ objectAt os k
 unfolding filledBy
