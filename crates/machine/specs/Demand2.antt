@@ -20,22 +20,20 @@ pub mod Theorem
 abbrev pub Refused11 : State → Call → Type 0
 Refused11 s c = (p : ℕ) × (perform s c .answer ≡ refused (record { number = 11; place = p }))
 
--- t is a complete table that agrees with all rows in use, all rules in force and the reply
-pub record Agrees (s : State) (r : Reply) (t : List Object) : Type 0 where
-  pub complete : Table (s .n) t
-  pub rows : All (AgreesObject t) (s .rows)
-  pub rules : All (AgreesImplication t) (force s)
-  pub reply : AgreesReply t r
-
--- no complete table agrees
-abbrev pub Contradictory : State → Reply → Type 0
-Contradictory s r = (t : List Object) → Agrees s r t → ⊥
-
 -- t is a complete table that agrees with all rows in use and all rules in force
 pub record AgreesAll (s : State) (t : List Object) : Type 0 where
   pub complete : Table (s .n) t
   pub rows : All (AgreesObject t) (s .rows)
   pub rules : All (AgreesImplication t) (force s)
+
+-- t agrees with the reply too
+pub record Agrees (s : State) (r : Reply) (t : List Object) : Type 0 where
+  pub all : AgreesAll s t
+  pub reply : AgreesReply t r
+
+-- no complete table agrees
+abbrev pub Contradictory : State → Reply → Type 0
+Contradictory s r = (t : List Object) → Agrees s r t → ⊥
 
 -- no complete table agrees with all rows, row k filled with the marks of m, and all rules
 abbrev pub ContradictoryFilled : State → ℕ → Object → Type 0

@@ -134,8 +134,8 @@ yes-call s up =
     against : Valid s → anywhere (contradicts (withQuestion s)) (s .rows) ≡ true → Contradictory s (agreed (question s))
     against v e t a =
         let x = anywhere-true _ (s .rows) e in
-        let all = subst (λ l. All (AgreesImplication t) l) with-question (all-snoc (force s) (question s) (a .rules) (a .reply)) in
-        true≢false (sym (x .2) ∙ no-contradiction (s .n) t (withQuestion s) (x .0) (a .complete) (over v) all (a .rows (x .0) (x .1)))
+        let all = subst (λ l. All (AgreesImplication t) l) with-question (all-snoc (force s) (question s) (a .all .rules) (a .reply)) in
+        true≢false (sym (x .2) ∙ no-contradiction (s .n) t (withQuestion s) (x .0) (a .all .complete) (over v) all (a .all .rows (x .0) (x .1)))
 
     agrees : Valid s → anywhere (contradicts (withQuestion s)) (s .rows) ≡ false → Agrees s (agreed (question s)) (closures (s .n) (withQuestion s) (s .rows))
     agrees v f =
@@ -143,9 +143,11 @@ yes-call s up =
         let rules = subst (λ l. All (AgreesImplication (closures (s .n) (withQuestion s) (s .rows))) l) (sym with-question)
         (closures-rules (s .n) (withQuestion s) (s .rows) (over v) (v .rows) ok) in
         record {
-          complete = closures-table (s .n) (withQuestion s) (s .rows) (over v) (v .rows) ok;
-          rows = closures-rows (s .n) (withQuestion s) (s .rows) (over v) (v .rows) ok;
-          rules = all-take (force s) (question s ∷ []) rules;
+          all = record {
+            complete = closures-table (s .n) (withQuestion s) (s .rows) (over v) (v .rows) ok;
+            rows = closures-rows (s .n) (withQuestion s) (s .rows) (over v) (v .rows) ok;
+            rules = all-take (force s) (question s ∷ []) rules;
+          };
           reply = rules (question s) (Memᴰ·append-right (force s) (List·Memᴰ·head refl));
         }
 
@@ -164,7 +166,7 @@ filing s o up =
     rows = s .rows ++ (o ∷ [])
 
     against : Valid s → contradicts (force s) o ≡ true → Contradictory s (offered o)
-    against v e t a = true≢false (sym e ∙ no-contradiction (s .n) t (force s) o (a .complete) (v .over) (a .rules) (a .reply))
+    against v e t a = true≢false (sym e ∙ no-contradiction (s .n) t (force s) o (a .all .complete) (v .over) (a .all .rules) (a .reply))
 
     agrees : Valid s → InM (s .n) o → contradicts (force s) o ≡ false → Agrees s (offered o) (closures (s .n) (force s) rows)
     agrees v inM f =
@@ -172,9 +174,11 @@ filing s o up =
         let ok = all-snoc (s .rows) o (v .consistent) f in
         let found = closures-rows (s .n) (force s) rows (v .over) all ok in
         record {
-          complete = closures-table (s .n) (force s) rows (v .over) all ok;
-          rows = all-take (s .rows) (o ∷ []) found;
-          rules = closures-rules (s .n) (force s) rows (v .over) all ok;
+          all = record {
+            complete = closures-table (s .n) (force s) rows (v .over) all ok;
+            rows = all-take (s .rows) (o ∷ []) found;
+            rules = closures-rules (s .n) (force s) rows (v .over) all ok;
+          };
           reply = found o (Memᴰ·append-right (s .rows) (List·Memᴰ·head refl));
         }
 
