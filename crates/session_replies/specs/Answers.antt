@@ -1,5 +1,5 @@
--- What each answer of the replies and of a filing says in document 01's terms (01, "How each place should look": a definition gives the
--- number and values for each case), and what a refusal gives back.
+-- What each answer of the replies, of a filing and of a filling says in document 01's terms (01, "How each place should look": a definition
+-- gives the number and values for each case), and what a refusal gives back.
 use mathlib.Core.Bool.{false}
 use Rattle.machine.specs.Machine.{Answer, taken, refused}
 use Rattle.session.specs.declared.Session.{Session}

@@ -1,9 +1,8 @@
 -- What is made of the log, with what the machine makes of the calls left, is what it makes of the whole log.
-use mathlib.Core.Path.{_≡_, refl}
-use Prim.Native.Nat.{_+_, _-_, _*_, _≤_, _<_}
+use mathlib.Core.Path.{refl}
+use Prim.Native.Nat.{_+_, _-_, _<_}
 use borrow.Author.Needs.{needs}
 use native.Mathlib.Omega.{arith}
-use lib.ListN.{length}
 use Rattle.call_logs.specs.Replay.{logWords}
 use Rattle.call_logs.specs.Replay.Loop.{Going, going-start, going-on, going-end}
 use Rattle.call_logs.proofs.replay.Statement.{statement}

@@ -1,6 +1,6 @@
 -- A filled object has and lacks no less than before (`has-joined`, `lacks-joined`), whatever implications are in force. In a list the filled
--- object alone is another (`filled-here`, `filled-other`), and none where its marks are known (`filled-known`); every member is there as it was or filled (`filled-member`), and what holds of all
--- members and of the filled object holds of all members then (`all-filled`).
+-- object alone is another (`filled-here`, `filled-other`), and none is where its marks are known (`filled-known`). Every member is there as it
+-- was or filled (`filled-member`), and what holds of all members and of the filled object holds of all members then (`all-filled`).
 use mathlib.Core.Path.{_≡_, refl, sym, ap, _∙_}
 use mathlib.Core.Logic.{_⊎_, inl, inr}
 use mathlib.Core.Bool.{Bool, true, false, _||_, true≢false}

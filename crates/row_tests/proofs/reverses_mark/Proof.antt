@@ -1,9 +1,6 @@
 -- The two tests are those of the definition.
-use mathlib.Core.Path.{_≡_, sym, ap, _∙_}
-use mathlib.Core.Bool.{not}
 use native.Mathlib.Omega.{arith}
 use lib.Bits.{bitAnd}
-use borrow.Author.Needs.{needs}
 use borrow.Author.Tests.{ne-eqb, eq-eqb}
 use Rattle.attribute_set.specs.Sets.{meets}
 use Rattle.context.specs.Filling.{reverses}

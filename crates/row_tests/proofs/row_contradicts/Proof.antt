@@ -1,5 +1,4 @@
 -- The closure is that of the definition, and so is the test.
-use mathlib.Core.Path.{_≡_, sym, ap, _∙_}
 use borrow.Author.Needs.{needs}
 use Rattle.attribute_set.specs.Sets.{meets}
 use Rattle.context.specs.Objects.{contradicts}
