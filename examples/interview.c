@@ -27,7 +27,9 @@ static const char USAGE[] =
     "Answer a question with yes (y), or with no (n) and a row of marks that refutes it; behind the marks the row may get a name.\n"
     "A mark that the rules imply may stay unknown. At a question, and when the interview is finished, row (r) and marks file a row that need\n"
     "not refute anything, and mark (m) fills in a mark that was unknown: mark cat flies no. There a row is called by its name, or as row 3.\n"
-    "At a question test (t) and marks say whether a row refutes it, and file nothing.\n";
+    "At a question test (t) and marks say whether a row refutes it, and file nothing.\n"
+    "At any time list (l) shows the rules so far, and holds (h) says of a rule whether it follows from them, is refuted, or is open:\n"
+    "holds has fur, flies -> breathes air. What follows goes on following, and what is refuted stays refuted.\n";
 
 static uint8_t file[ZUNDRAFL_MOST_BYTES + 1];
 static size_t bytes;
@@ -187,6 +189,13 @@ static int read_set(char *text, uint64_t *set) {
     return 1;
 }
 
+/* A rule: names, an arrow, names. */
+static int read_rule(char *text, uint64_t *premise, uint64_t *conclusion) {
+    char *arrow = strstr(text, "->");
+    if (arrow) *arrow = 0;
+    return arrow && read_set(text, premise) && read_set(arrow + 2, conclusion);
+}
+
 /* Whether a text ends in a name, with white space before it or nothing. What comes before that has `length` bytes. */
 static int ends_in(const char *text, const char *name, size_t *length) {
     size_t before = strlen(text), size = strlen(name);
@@ -268,15 +277,12 @@ static void read_table(const char *path) {
 }
 
 static void read_background(const char *path) {
-    char line[LINE], *arrow;
+    char line[LINE];
     FILE *in = fopen(path, "r");
     if (!in) fail("cannot be read", path);
     for (size_t number = 1; fgets(line, sizeof line, in); number++) {
         if (strspn(line, " \t\r\n") == strlen(line)) continue;
-        arrow = strstr(line, "->");
-        if (arrow) *arrow = 0;
-        if (background_words == RULE_WORDS || !arrow || !read_set(line, &background[background_words]) ||
-            !read_set(arrow + 2, &background[background_words + 1])) {
+        if (background_words == RULE_WORDS || !read_rule(line, &background[background_words], &background[background_words + 1])) {
             fprintf(stderr, "%s, line %zu: not a rule over the properties of the table, or one too many\n", path, number);
             exit(2);
         }
@@ -425,6 +431,30 @@ static void test_row(uint64_t yes, uint64_t no) {
     else show_sentence(answer.code);
 }
 
+/* Shows how far the interview is, and the rules agreed to. */
+static void show_rules(int finished) {
+    printf("%zu rules, %zu rows%s\n", session.rules, session.rows, finished ? "" : ", not finished");
+    for (size_t i = 0; i < session.rules; i++) {
+        show_set(stdout, list[2 * i]);
+        printf(" -> ");
+        show_set(stdout, list[2 * i + 1]);
+        printf("\n");
+    }
+}
+
+/* Says of a rule over the properties of the table what is known of it so far: an answer that no later reply takes back, or that it is open. */
+static void show_known(uint64_t premise, uint64_t conclusion) {
+    zundrafl_follows(&session, rows, ROW_WORDS, list, RULE_WORDS, background, background_words, premise, conclusion, &answer);
+    if (answer.code == ZUNDRAFL_FOLLOWS && answer.first) {
+        puts("It follows from the rules.");
+        return;
+    }
+    zundrafl_refuted(&session, rows, ROW_WORDS, list, RULE_WORDS, background, background_words, premise, conclusion, &answer);
+    if (answer.code == ZUNDRAFL_REFUTED) fputs("It is refuted by ", stdout), show_row(stdout, answer.first), puts(".");
+    else if (answer.code == ZUNDRAFL_UNREFUTED) puts("It is open.");
+    else show_sentence(answer.code);
+}
+
 /* One line to what is asked; 0 at the end of the lines, and at an empty one when the interview is finished. */
 static int reply(uint64_t premise, uint64_t conclusion) {
     char line[LINE], *rest = line, *word, *last;
@@ -442,23 +472,13 @@ static int reply(uint64_t premise, uint64_t conclusion) {
     else if (asked && is(word, "test") && read_named_row(&rest, &yes, &no) && !*rest) test_row(yes, no);
     else if (is(word, "mark") && (last = last_word(rest)) > rest && (lower(last), is(last, "yes") || is(last, "no")))
         take_mark(rest, *last == 'y');
-    else if (asked)
-        fprintf(stderr, "Write yes, or no, row or test and %zu marks: X yes, . no, ? unknown; or mark, a row, a property and yes or no.\n",
-                layout.attributes);
+    else if (is(word, "list") && !*rest) show_rules(!asked);
+    else if (is(word, "holds") && read_rule(rest, &yes, &no)) show_known(yes, no);
     else
-        fprintf(stderr, "Write row and %zu marks: X yes, . no, ? unknown; or mark, a row, a property and yes or no; or an empty line.\n",
-                layout.attributes);
+        fprintf(stderr,
+                "Write %s and %zu marks: X yes, . no, ? unknown; or mark, a row, a property and yes or no; or list; or holds and a rule%s.\n",
+                asked ? "yes, or no, row or test" : "row", layout.attributes, asked ? "" : "; or an empty line");
     return 1;
-}
-
-static void show_rules(int finished) {
-    printf("\n%zu rules, %zu rows%s\n", session.rules, session.rows, finished ? "" : ", not finished");
-    for (size_t i = 0; i < session.rules; i++) {
-        show_set(stdout, list[2 * i]);
-        printf(" -> ");
-        show_set(stdout, list[2 * i + 1]);
-        printf("\n");
-    }
 }
 
 /* Writes the table with your rows in it; 0 where that is refused. */
@@ -503,6 +523,7 @@ int main(int argc, char **argv) {
         if (answer.code == ZUNDRAFL_MOVED) write_call("step", 0, 0, "");
         else if (!reply(answer.first, answer.second)) break;
     }
+    putchar('\n');
     show_rules(finished);
     if (saved && !save(saved)) return refused();
     return finished ? 0 : 1;

@@ -32,6 +32,8 @@ Answer a question with yes (y), or with no (n) and a row of marks that refutes i
 A mark that the rules imply may stay unknown. At a question, and when the interview is finished, row (r) and marks file a row that need
 not refute anything, and mark (m) fills in a mark that was unknown: mark cat flies no. There a row is called by its name, or as row 3.
 At a question test (t) and marks say whether a row refutes it, and file nothing.
+At any time list (l) shows the rules so far, and holds (h) says of a rule whether it follows from them, is refuted, or is open:
+holds has fur, flies -> breathes air. What follows goes on following, and what is refuted stays refuted.
 ";
 
 /// Why an interview cannot go on: what to say, and the exit status.
@@ -127,8 +129,7 @@ impl Interview {
     fn read_background(&mut self, path: &str) -> Result<(), Stop> {
         let text = fs::read_to_string(path).map_err(|_| wrong("cannot be read", path))?;
         for (number, line) in text.lines().enumerate().filter(|(_, line)| !line.trim().is_empty()) {
-            let rule = line.split_once("->").and_then(|(premise, conclusion)| Some([self.set(premise)?, self.set(conclusion)?]));
-            match rule {
+            match self.rule(line) {
                 Some(rule) if self.background.len() < RULE_WORDS => self.background.extend(rule),
                 _ => {
                     let what = "not a rule over the properties of the table, or one too many";
@@ -217,6 +218,20 @@ impl Interview {
         a
     }
 
+    fn follows(&self, [premise, conclusion]: [u64; 2]) -> Answer {
+        let mut a = Answer::default();
+        let (r, l, b) = (self.rows.as_ptr(), self.list.as_ptr(), self.background.as_ptr());
+        unsafe { zundrafl_follows(&self.session, r, ROW_WORDS, l, RULE_WORDS, b, self.background.len(), premise, conclusion, &mut a) };
+        a
+    }
+
+    fn refuted(&self, [premise, conclusion]: [u64; 2]) -> Answer {
+        let mut a = Answer::default();
+        let (r, l, b) = (self.rows.as_ptr(), self.list.as_ptr(), self.background.as_ptr());
+        unsafe { zundrafl_refuted(&self.session, r, ROW_WORDS, l, RULE_WORDS, b, self.background.len(), premise, conclusion, &mut a) };
+        a
+    }
+
     fn named(&self, set: u64) -> String {
         let names: Vec<_> = self.attributes.iter().enumerate().filter(|(i, _)| set >> i & 1 == 1).map(|(_, name)| name.as_str()).collect();
         if names.is_empty() { "nothing".to_string() } else { names.join(", ") }
@@ -226,6 +241,12 @@ impl Interview {
     fn set(&self, text: &str) -> Option<u64> {
         let names = text.split(',').map(str::trim).filter(|name| *name != "nothing");
         names.map(|name| self.attributes.iter().position(|a| a == name).map(|i| 1 << i)).try_fold(0, |set, bit| Some(set | bit?))
+    }
+
+    /// A rule: names, an arrow, names.
+    fn rule(&self, text: &str) -> Option<[u64; 2]> {
+        let (premise, conclusion) = text.split_once("->")?;
+        Some([self.set(premise)?, self.set(conclusion)?])
     }
 
     /// A row as the table file writes it: X yes, . no, ? unknown.
@@ -387,9 +408,31 @@ impl Interview {
         }
     }
 
-    /// One line to what is asked: the call for the log, nothing where a test passed, or what to say.
+    /// Shows how far the interview is, and the rules agreed to.
+    fn show_rules(&self, finished: bool) {
+        println!("{} rules, {} rows{}", self.session.rules, self.session.rows, if finished { "" } else { ", not finished" });
+        for rule in self.list[..2 * self.session.rules].chunks(2) {
+            println!("{} -> {}", self.named(rule[0]), self.named(rule[1]));
+        }
+    }
+
+    /// What is known so far of a rule over the properties of the table: an answer that no later reply takes back, or that it is open.
+    fn known(&self, rule: [u64; 2]) -> Result<String, String> {
+        let a = self.follows(rule);
+        if a.code == FOLLOWS && a.first == 1 {
+            return Ok("It follows from the rules.".to_string());
+        }
+        match self.refuted(rule) {
+            a if a.code == REFUTED => Ok(format!("It is refuted by {}.", self.row_name(a.first as usize))),
+            a if a.code == UNREFUTED => Ok("It is open.".to_string()),
+            a => Err(sentence(a.code)),
+        }
+    }
+
+    /// One line to what is asked: the call for the log, nothing where something was shown, or what to say.
     fn reply(&mut self, line: &[u8], rule: [u64; 2]) -> Result<Option<Vec<u8>>, String> {
         let ((said, rest), n, asked) = (first_word(line), self.attributes.len(), rule[1] != 0);
+        let about = self.rule(&String::from_utf8_lossy(rest));
         match (said.to_ascii_lowercase().as_slice(), rest, self.named_row(rest), before_reply(rest)) {
             (b"yes" | b"y", b"", _, _) if asked => match self.accept() {
                 a if a.code == TAKEN => Ok(Some(b"yes".to_vec())),
@@ -406,8 +449,19 @@ impl Interview {
                 }
                 a => Err(sentence(a.code)),
             },
-            _ if asked => Err(format!("Write yes, or no, row or test and {n} marks: X yes, . no, ? unknown; or mark, a row, a property and yes or no.\n")),
-            _ => Err(format!("Write row and {n} marks: X yes, . no, ? unknown; or mark, a row, a property and yes or no; or an empty line.\n")),
+            (b"list" | b"l", b"", _, _) => {
+                self.show_rules(!asked);
+                Ok(None)
+            }
+            (b"holds" | b"h", _, _, _) if about.is_some() => {
+                println!("{}", self.known(about.unwrap_or_default())?);
+                Ok(None)
+            }
+            _ => {
+                let (what, ending) = if asked { ("yes, or no, row or test", "") } else { ("row", "; or an empty line") };
+                let mark = "or mark, a row, a property and yes or no; or list; or holds and a rule";
+                Err(format!("Write {what} and {n} marks: X yes, . no, ? unknown; {mark}{ending}.\n"))
+            }
         }
     }
 
@@ -465,10 +519,8 @@ fn hold(files: &Files) -> Result<bool, Stop> {
             _ => return Err(it.refused(a)),
         }
     };
-    println!("\n{} rules, {} rows{}", it.session.rules, it.session.rows, if finished { "" } else { ", not finished" });
-    for rule in it.list[..2 * it.session.rules].chunks(2) {
-        println!("{} -> {}", it.named(rule[0]), it.named(rule[1]));
-    }
+    println!();
+    it.show_rules(finished);
     if let Some(path) = &files.save {
         it.save(path)?;
     }

@@ -159,11 +159,13 @@ void zundrafl_file_row(zundrafl_session *session, uint64_t *rows, size_t row_wor
 void zundrafl_fill_row(zundrafl_session *session, uint64_t *rows, size_t row_words, const uint64_t *list, size_t list_words,
                        const uint64_t *background, size_t background_words, size_t row, uint64_t yes, uint64_t no, zundrafl_answer *answer);
 
-/* Whether a rule follows from background and list: FOLLOWS with 1 or 0. 1 to 7. */
+/* Whether a rule follows from background and list: FOLLOWS with 1 or 0. From an opening on, a rule that follows goes on following, whatever is
+ * called, and no row ever refutes it. 1 to 7. */
 void zundrafl_follows(const zundrafl_session *session, const uint64_t *rows, size_t row_words, const uint64_t *list, size_t list_words,
                       const uint64_t *background, size_t background_words, uint64_t premise, uint64_t conclusion, zundrafl_answer *answer);
 
-/* Whether a row refutes a rule: REFUTED with the lowest such row, or UNREFUTED. 1 to 7. */
+/* Whether a row refutes a rule: REFUTED with the lowest such row, or UNREFUTED. From an opening on, a rule that is refuted stays refuted, whatever
+ * is called, with the same row or a lower one, and it never follows. 1 to 7. */
 void zundrafl_refuted(const zundrafl_session *session, const uint64_t *rows, size_t row_words, const uint64_t *list, size_t list_words,
                       const uint64_t *background, size_t background_words, uint64_t premise, uint64_t conclusion, zundrafl_answer *answer);
 

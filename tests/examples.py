@@ -10,8 +10,9 @@ import sys
 import tempfile
 
 PETS = "examples/tables/pets"
-HINT = "Write yes, or no, row or test and 4 marks: X yes, . no, ? unknown; or mark, a row, a property and yes or no.\n"
-LATE_HINT = "Write row and 4 marks: X yes, . no, ? unknown; or mark, a row, a property and yes or no; or an empty line.\n"
+MARK = "4 marks: X yes, . no, ? unknown; or mark, a row, a property and yes or no; or list; or holds and a rule"
+HINT = f"Write yes, or no, row or test and {MARK}.\n"
+LATE_HINT = f"Write row and {MARK}; or an empty line.\n"
 ANOTHER = "Finished. Another row or mark, or an empty line: "
 REFUTES = "It refutes the question.\n"
 NO_PROPERTY = "No property is called so.\n"
@@ -466,6 +467,71 @@ def fillings(runs):
         fills(rows, properties, before, ["".join(marks) for marks in after], given, said)
 
 
+FOLLOWS, OPEN, REFUTED = "It follows from the rules.\n", "It is open.\n", "It is refuted by row "
+
+
+def known(said):
+    """What was said of rules, one after the other."""
+    lines = [line[max(line.rfind("It follows"), line.rfind("It is ")):] + "\n" for line in said.splitlines() if "? It " in line or ": It " in line]
+    assert all(line in [FOLLOWS, OPEN] or line.startswith(REFUTED) for line in lines)
+    return lines
+
+
+def stays(before, now):
+    """Whether what was said of a rule stays: that it follows, or that a row refutes it, with this row or an earlier one."""
+    numbers = [int(said[len(REFUTED):].split(" ")[0]) for said in [before, now] if said.startswith(REFUTED)]
+    return before == OPEN or before == now == FOLLOWS or (len(numbers) == 2 and numbers[1] <= numbers[0])
+
+
+def results(runs):
+    """The rules so far, and what is known of a rule so far, at a question and when the interview is finished."""
+    with open("tests/interview.replies") as replies, open("tests/interview.list") as wanted:
+        replies, wanted = replies.read(), wanted.read()
+    lines = replies.replace("maybe\n", "").replace("no .X.?\n", "").splitlines(keepends=True)
+    said = runs.run([PETS], "".join(lines), 0, out=wanted, err="")
+    rules, first, ended = wanted.splitlines()[1:], "Does every row have breathes air? ", "\n0 rules, 3 rows, not finished\n"
+
+    # The list before every reply is the rules that were agreed to until then, and nothing of it comes into the log.
+    plain, log = os.path.join(runs.folder, "unshown-log"), os.path.join(runs.folder, "shown-log")
+    runs.run([PETS, "--log", plain], "".join(lines), 0)
+    shown = runs.run([PETS, "--log", log], "".join("list\n" + line for line in lines) + " L \n", 0, out=wanted, err="")
+    with open(plain) as text:
+        runs.holds(log, text.read())
+    count, rows = 0, 3
+    for line in lines:
+        listed = f"{count} rules, {rows} rows, not finished\n" + "".join(rule + "\n" for rule in rules[:count])
+        asked, after = shown.split(listed, 1)
+        shown = asked[:asked.rindex("Does every row")] + after
+        count, rows = count + line.startswith("yes"), rows + line.startswith("no")
+    assert shown == said.replace(ANOTHER, ANOTHER + wanted + ANOTHER) and count == len(rules)
+
+    # What is said of rules before each reply stays, and in the end nothing is open.
+    having = ["has fur", "flies", "swims", "breathes air"]
+    sets = having + [f"{a}, {b}" for a in having for b in having if a < b] + ["nothing"]
+    asked = "".join(f"holds {premise} -> {conclusion}\n" for premise in sets for conclusion in sets)
+    before = [OPEN] * len(sets) ** 2
+    for taken in range(len(lines) + 1):
+        now = known(runs.run([PETS], "".join(lines[:taken]) + asked, int(taken < len(lines)), err=""))
+        assert len(now) == len(before) and all(map(stays, before, now)), (taken, before, now)
+        before = now
+    assert OPEN not in before and FOLLOWS in before and any(line.startswith(REFUTED) for line in before)
+
+    # Letters, names of rows, and what is no rule.
+    runs.run([PETS], "HOLDS  nothing ->  breathes air \r\nh flies -> has fur\nh swims, flies -> swims\n", 1, err="",
+             out=f"{first}{OPEN}{first}{REFUTED}2 (parrot).\n{first}{FOLLOWS}{first}{ended}")
+    given = known(runs.run([PETS], "row X..X dog\nrow ..X.\nh has fur -> swims\nh has fur -> flies\nh swims -> breathes air\n", 1, err=""))
+    assert given == [f"{REFUTED}1 (cat).\n", f"{REFUTED}4 (dog).\n", f"{REFUTED}5 (the 2. of your rows).\n"]
+    # With the mark that becomes known an earlier row refutes it, and that is named.
+    given = known(runs.run([PETS], "row X..X dog\nholds has fur -> flies\nmark cat flies no\nholds has fur -> flies\n", 1, err=""))
+    assert given == [f"{REFUTED}4 (dog).\n", f"{REFUTED}1 (cat).\n"]
+    for wrong in ["holds", "holds flies", "holds flies -> ", "holds -> flies", "holds flies -> walks", "hold flies -> swims", "list all", "lists"]:
+        runs.run([PETS], wrong + "\n", 1, out=first * 2 + ended, err=HINT)
+        runs.run([PETS], replies + wrong + "\n", 0, out=f"{ANOTHER * 2}\n{wanted}", err=HINT + refused(10) + LATE_HINT)
+    # What the background says follows from the start.
+    furry = runs.path("furry", "has fur -> breathes air\n")
+    assert known(runs.run([PETS, "--background", furry], "holds has fur -> breathes air\n", 1, err="")) == [FOLLOWS]
+
+
 def table_parts(text):
     """The names of the rows and of the properties, and the lines of marks."""
     lines = text.splitlines()
@@ -581,7 +647,7 @@ def main():
     for program in sys.argv[1:]:
         with tempfile.TemporaryDirectory() as folder:
             runs = Runs(os.path.abspath(program), folder)
-            for part in [uses, files, interviews, refusals, saves, filings, fillings, listings]:
+            for part in [uses, files, interviews, refusals, saves, filings, fillings, results, listings]:
                 part(runs)
             shown.append(runs.shown)
             print(f"{program}: {len(runs.shown)} runs say what they have to")

@@ -131,7 +131,15 @@ fn main() -> ExitCode {
         }
     }
 
-    let tables = [sessions::KINDS, sessions::FILED, sessions::FILLED, sessions::IMPLIED, files::KINDS, listings::KINDS];
+    let tables = [
+        sessions::KINDS,
+        sessions::FILED,
+        sessions::FILLED,
+        sessions::SHOWN,
+        sessions::IMPLIED,
+        files::KINDS,
+        listings::KINDS,
+    ];
     for kinds in tables {
         let kinds: Vec<&str> = kinds.iter().map(|&(kind, _)| kind).collect();
         tally.print(&kinds);

@@ -8,8 +8,8 @@ use crate::library::{
     zundrafl_open_session, zundrafl_refuted, zundrafl_reject, zundrafl_replay, zundrafl_step, zundrafl_test_row,
 };
 use crate::machine::{
-    self, ACCEPTED, ANSWER_WORDS, ASKED, Answer, CALL_WORDS, FINISHED, MAX_ROW_WORDS, MAX_RULE_WORDS, REFUTED, REFUTES,
-    Record, UNREFUTED,
+    self, ACCEPTED, ANSWER_WORDS, ASKED, Answer, CALL_WORDS, FINISHED, FOLLOWS, MAX_ROW_WORDS, MAX_RULE_WORDS, REFUTED,
+    REFUTES, Record, UNREFUTED,
 };
 use crate::random::Random;
 use crate::sets::{self, Pair};
@@ -66,6 +66,28 @@ const FILLED_CHANGE: &str = "step changed";
 const FILLED_FIRST: &str = "opened row";
 const FILLED_LATER: &str = "later row";
 
+/// Rules asked about twice in an interview, counted by what was said first: that the rule follows, that a row refutes it, or
+/// neither, each with the code that the question whether it is refuted had the second time; those that a row refutes once more
+/// where an earlier row was named then. And the questions that came up, by whether one was answered before.
+pub const SHOWN: &[(&str, &[u64])] = &[
+    (SHOWN_FOLLOWS, &[106]),
+    (SHOWN_REFUTED, &[105]),
+    (SHOWN_EARLIER, &[105]),
+    (SHOWN_OPEN, &[105, 106]),
+    (ASKED_FIRST, &[102]),
+    (ASKED_NEXT, &[102]),
+];
+
+const SHOWN_FOLLOWS: &str = "followed before";
+const SHOWN_REFUTED: &str = "refuted before";
+const SHOWN_EARLIER: &str = "earlier row";
+const SHOWN_OPEN: &str = "open before";
+const ASKED_FIRST: &str = "first question";
+const ASKED_NEXT: &str = "next question";
+
+/// So many rules at the most are asked about again.
+const MAX_SHOWN: usize = 8;
+
 /// The calls that the marks as written would answer otherwise, counted again: steps and yeses by their question, nos and tests
 /// by whether the row refutes it, rules by the first row that refutes them. Of the nos and the tests once more those whose row
 /// is not marked yes in the whole premise, and those whose row is not marked no in the conclusion, and refutes it all the same.
@@ -99,6 +121,14 @@ struct State {
     rows: Vec<u64>,
     list: Vec<u64>,
     background: Vec<u64>,
+}
+
+/// What was said of a rule.
+#[derive(Clone, Copy, PartialEq)]
+enum Said {
+    Follows,
+    RefutedBy(u64),
+    Neither,
 }
 
 #[derive(Clone)]
@@ -331,6 +361,10 @@ struct Script<'a> {
     truth: Vec<Pair>,
     /// The rows of the accepted opening that the session comes from.
     opened: Option<usize>,
+    /// The rules that were asked about since the opening, with what was said of them last.
+    shown: Vec<(Pair, Said)>,
+    /// The questions that were answered since the opening.
+    answered: Vec<Pair>,
     /// The calls before, for the report of a failure.
     played: Vec<(Call, Answer)>,
 }
@@ -339,7 +373,8 @@ pub fn play(mut random: Random, tally: &mut Tally) -> Result<(), String> {
     let record =
         Record { n: random.below(99), rows: random.below(99), rules: random.below(99), current: random.word() };
     let state = State { record, rows: vec![], list: vec![], background: vec![] };
-    let mut script = Script { random, tally, state, truth: vec![], opened: None, played: vec![] };
+    let mut script =
+        Script { random, tally, state, truth: vec![], opened: None, shown: vec![], answered: vec![], played: vec![] };
     match script.random.below(5) {
         0 => {
             script.make_soup();
@@ -637,6 +672,9 @@ impl Script<'_> {
     /// those change.
     fn drive(&mut self, calls: usize, noise: usize, honest: bool) -> Result<(), String> {
         for _ in 0..calls {
+            if self.opened.is_some() && self.chance(12) {
+                self.look()?;
+            }
             if self.chance(noise) {
                 self.disturb(honest)?;
                 continue;
@@ -671,20 +709,85 @@ impl Script<'_> {
                 return Ok(());
             }
             if stepped.answer.code == ASKED {
+                let question = (stepped.answer.first, stepped.answer.second);
+                self.check_new(question)?;
                 if self.chance(3) {
                     // Another reply, or a test, of which nothing is kept.
                     let row = self.any_row(&self.state.clone());
                     let call = [Call::Yes, Call::No(row), Call::Test(row)][self.random.below(3)].clone();
                     self.call(self.state.clone(), call)?;
                 }
-                let reply = self.truthful(&self.state.clone(), (stepped.answer.first, stepped.answer.second));
+                let reply = self.truthful(&self.state.clone(), question);
                 let replied = self.call(self.state.clone(), reply)?;
                 self.state = replied.state;
                 if replied.answer != Answer::accepted() {
                     return self.disturb(honest);
                 }
+                self.answered.push(question);
             }
         }
+        Ok(())
+    }
+
+    /// Asks about a rule over M, and again about those that were asked about before: what follows goes on following, what a row
+    /// refutes goes on being refuted, by that row or an earlier one, and nothing is both.
+    fn look(&mut self) -> Result<(), String> {
+        let state = self.state.clone();
+        let all = sets::all(state.record.n);
+        let (premise, conclusion) = self.any_rule(&state);
+        let mut shown = std::mem::take(&mut self.shown);
+        for (rule, before) in &mut shown {
+            let now = self.said(&state, *rule)?;
+            let kind = match (*before, now) {
+                (Said::Follows, Said::Follows) => SHOWN_FOLLOWS,
+                (Said::RefutedBy(row), Said::RefutedBy(first)) if first <= row => SHOWN_REFUTED,
+                (Said::Neither, _) => SHOWN_OPEN,
+                _ => return Err(format!("said otherwise before:\n{}\n{}", Call::Follows(*rule).show(), show_state(&state))),
+            };
+            let code = if matches!(now, Said::RefutedBy(_)) { REFUTED } else { UNREFUTED };
+            self.tally.add(kind, code);
+            if kind == SHOWN_REFUTED && now != *before {
+                self.tally.add(SHOWN_EARLIER, code);
+            }
+            *before = now;
+        }
+        let rule = (premise & all, conclusion & all);
+        let said = self.said(&state, rule)?;
+        if shown.len() == MAX_SHOWN {
+            let oldest = self.random.below(MAX_SHOWN);
+            shown.swap_remove(oldest);
+        }
+        shown.push((rule, said));
+        self.shown = shown;
+        Ok(())
+    }
+
+    /// What the two read-only calls say of a rule over M, which they may not refuse.
+    fn said(&mut self, state: &State, rule: Pair) -> Result<Said, String> {
+        let follows = self.call(state.clone(), Call::Follows(rule))?.answer;
+        let refuted = self.call(state.clone(), Call::Refuted(rule))?.answer;
+        match (follows.code, follows.first, refuted.code) {
+            (FOLLOWS, 1, UNREFUTED) => Ok(Said::Follows),
+            (FOLLOWS, 0, REFUTED) => Ok(Said::RefutedBy(refuted.first)),
+            (FOLLOWS, 0, UNREFUTED) => Ok(Said::Neither),
+            _ => {
+                let (follows, refuted) = (show(&follows), show(&refuted));
+                let state = show_state(state);
+                Err(format!("{}\n{state}follows: {follows}\nrefuted: {refuted}", Call::Follows(rule).show()))
+            }
+        }
+    }
+
+    /// A question that was answered since the opening does not come up again.
+    fn check_new(&mut self, question: Pair) -> Result<(), String> {
+        if self.opened.is_none() {
+            return Ok(());
+        }
+        if self.answered.contains(&question) {
+            let (premise, conclusion) = question;
+            return Err(format!("asked again: {premise:#x} {conclusion:#x}\n{}", show_state(&self.state)));
+        }
+        self.tally.add(if self.answered.is_empty() { ASKED_FIRST } else { ASKED_NEXT }, ASKED);
         Ok(())
     }
 
@@ -724,6 +827,7 @@ impl Script<'_> {
     /// rule with them as well.
     fn go_on(&mut self, honest: bool) -> Result<(), String> {
         self.ask_rules()?;
+        self.look()?;
         for _ in 0..2 + self.random.below(5) {
             let state = self.state.clone();
             let (truthful, late) = (honest || self.chance(3), [FILED_LATE, FILLED_LATE][self.random.below(2)]);
@@ -745,7 +849,7 @@ impl Script<'_> {
         for code in self.ask_rules()? {
             self.tally.add(DECIDED_LATE, code);
         }
-        Ok(())
+        self.look()
     }
 
     /// Asks about some rules over M: each follows just if no row refutes it. Returns the codes of whether it is refuted.
@@ -800,9 +904,12 @@ impl Script<'_> {
         if self.chance(2) {
             return self.call_damaged(call);
         }
-        let left = self.call(self.state.clone(), call)?.state;
+        let left = self.call(self.state.clone(), call.clone())?.state;
         if !honest {
             self.state = left;
+            if matches!(call, Call::Open { .. } | Call::OpenAndReplay { .. }) {
+                (self.shown, self.answered) = (vec![], vec![]);
+            }
         }
         Ok(())
     }

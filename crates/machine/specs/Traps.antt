@@ -38,6 +38,8 @@ pub record Traps : Type 0 where
   pub another-question : perform (state [] (object 7 0 ∷ object 1 6 ∷ []) 0) step .answer ≡ asked (implication 0 1)
   -- a yes is taken and moves under the rule agreed to
   pub yes-taken : perform (state [] [] 0) accept ≡ turn taken (state (implication 0 7 ∷ []) [] 7)
+  -- a second yes leaves the first rule where it is (02, request 8/13)
+  pub second-yes : perform (state (implication 4 2 ∷ []) (bare ∷ []) 2) accept ≡ turn taken (state (implication 4 2 ∷ implication 2 5 ∷ []) (bare ∷ []) 1)
   -- the first set that equals its reach is not the end: a step moves, to the next set under the list too
   pub tight : perform (state [] (bare ∷ []) 0) step ≡ turn moved (state [] (bare ∷ []) 4)
   pub tight-listed : perform (state (implication 4 2 ∷ []) (bare ∷ []) 0) step ≡ turn moved (state (implication 4 2 ∷ []) (bare ∷ []) 2)

@@ -1,5 +1,5 @@
--- A saved interview taken up again: a session is opened and a log of calls is made on it, in one call. Its contract joins demand 3 to the
--- code: where the calls were made, `Demand3Whole` and the `Trace` of the interview made of the values at entry and at exit.
+-- A saved interview taken up again: a session is opened and a log of calls is made on it, in one call. Its contract joins demand 3 and request
+-- 8/13 to the code: where the calls were made, `Demand3Whole`, the `Trace` and `ShownInLog` of the interview made of the values at entry and at exit.
 use mathlib.Core.Path.{_≡_}
 use mathlib.Core.Logic.{_⊎_}
 use mathlib.Core.Bool.{Bool, true, false}
@@ -21,6 +21,7 @@ use Rattle.call_logs.specs.declared.Log.{Log}
 use Rattle.call_logs.specs.declared.Log.the-variants.{Replayed, Short}
 use Rattle.saved_interview.specs.Demand3Whole.{Interview, opening-state, end-state, script, Demand3Whole, SameLists}
 use Rattle.saved_interview.specs.Trace.{Trace}
+use Rattle.saved_interview.specs.BeforeTheEndWhole.{ShownInLog}
 pub mod Theorem
 
 -- the answer to a log, the record that is left, and whether it changed: only where the calls were made
@@ -73,6 +74,7 @@ module _ (n used : ℕ) (background calls : List ℕ) (before : Session) (words 
     pub taken-up : TakenUp
     pub demand-3 : Demand3Whole (interview taken-up)
     pub trace : Trace (interview taken-up)
+    pub shown : ShownInLog (interview taken-up)
 
   abbrev pub Outcome : Type 0
   Outcome = NotOpened ⊎ (NoRoom ⊎ Held)

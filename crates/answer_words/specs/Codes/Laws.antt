@@ -1,5 +1,5 @@
 -- The three words of a call's answer say which answer it was (`read-back`, `codes-tell`), and just those below 100 are refusals
--- (`refusal-code`, `small-code`, `opening-code`).
+-- (`refusal-code`, `small-code`, `opening-code`). Those of the two read-only calls never say both of one rule (`never-both-coded`).
 use mathlib.Core.Path.{_≡_, refl, sym, ap, _∙_}
 use mathlib.Core.Bool.{true, false}
 use mathlib.Core.List.{List}
@@ -7,11 +7,14 @@ use Prim.Native.Nat.{ℕ, _<_}
 use native.Mathlib.Omega.{arith}
 use borrow.Author.Tests.{ne-eqb}
 use Rattle.session.specs.declared.Refusal.{Refusal}
+use Rattle.theory.specs.Implications.{Implication}
 use Rattle.machine.specs.Checks.{State}
-use Rattle.machine.specs.Machine.{Call, Answer, finished, moved, asked, taken, followed, refuted, unrefuted, refuting, refused, perform, Opening, opened, rejected}
+use Rattle.machine.specs.Machine.{Call, follow, refute, Answer, finished, moved, asked, taken, followed, refuted, unrefuted, refuting, refused, perform, Opening, opened, rejected}
 use Rattle.machine.specs.Facts.Refused.{small-number, opening-number}
+use Rattle.machine.specs.BeforeTheEnd.Laws.{never-answered-both}
 use Rattle.machine.specs.Calls.{openingFrom}
-use Rattle.answer_words.specs.Codes.{codeOf, answerIn, codeOfOpening, isOpened}
+use Rattle.answer_words.specs.declared.Answer.{Answer as Coded}
+use Rattle.answer_words.specs.Codes.{coded, codeOf, answerIn, codeOfOpening, isOpened}
 
 -- the answer can be read back from its words, where a refusal has a number below 100
 read-words : (a : Answer) → ((r : Refusal) → a ≡ refused r → r .number < 100) → answerIn (codeOf a) ≡ a
@@ -51,9 +54,20 @@ module _ (s : State) (c : Call) where
   pub read-back : answerIn (codeOf (perform s c .answer)) ≡ perform s c .answer
   read-back = read-words (perform s c .answer) refusal-small
 
+  -- so the words tell the answer
+  pub words-tell : (x : Coded) → x ≡ codeOf (perform s c .answer) → perform s c .answer ≡ answerIn x
+  words-tell x e = sym read-back ∙ ap answerIn (sym e)
+
 -- answers of calls with the same words are the same
 pub codes-tell : (s t : State) (c d : Call) → codeOf (perform s c .answer) ≡ codeOf (perform t d .answer) → perform s c .answer ≡ perform t d .answer
 codes-tell s t c d e = sym (read-back s c) ∙ ap answerIn e ∙ read-back t d
+
+-- the words of the two read-only calls never say both of one rule, in any state (02, request 8/13): that it follows, and that a row refutes it
+pub never-both-coded : (s : State) (r : Implication ℕ) (x y : Coded) → x ≡ codeOf (perform s (follow r) .answer) → y ≡ codeOf (perform s (refute r) .answer)
+    → x ≡ coded 104 1 0 → (k : ℕ) → y ≡ coded 105 k 0 → ⊥
+unfolding answerIn
+never-both-coded s r x y e f a k b =
+    never-answered-both s r k (words-tell s (follow r) x e ∙ ap answerIn a) (words-tell s (refute r) y f ∙ ap answerIn b)
 
 -- only a refusal has a code below 100
 pub small-code : (a : Answer) → codeOf a .code < 100 → (r : Refusal) × (a ≡ refused r)

@@ -15,8 +15,8 @@ use Rattle.attribute_set.specs.Sets.Laws.{digit-none, sub-inside, not-inside, s
 use Rattle.attribute_set.specs.Lectic.Laws.{single-at, single-sub}
 use Rattle.attribute_set.specs.Passing.Laws.{passing-in, passing-passes, passing-below}
 use Rattle.attribute_set.specs.Words.{words}
-use Rattle.implication.specs.Closure.{closure}
-use Rattle.implication.specs.Closure.Laws.{closure-least, closure-mono, closure-more}
+use Rattle.implication.specs.Closure.{closure, follows}
+use Rattle.implication.specs.Closure.Laws.{closure-least, closure-mono, closure-more, follows-sub}
 use Rattle.implication.specs.Pairs.Laws.{length-pairs, pairs-whole}
 use Rattle.context.specs.Places.{lowest}
 use Rattle.context.specs.Places.Laws.{lowest-append-found, lowest-append-none}
@@ -141,6 +141,13 @@ module _ (rs : List (Implication ℕ)) (o : Object) where
     unfolding refutes refutesWritten
     spares k = written-spares implied r k
 
+-- an object that has and lacks no less refutes no less
+pub refutes-grown : (rs ts : List (Implication ℕ)) (o p : Object) (r : Implication ℕ) → Sub (has rs o) (has ts p) → Sub (lacks rs o) (lacks ts p)
+    → refutes rs o r ≡ true → refutes ts p r ≡ true
+refutes-grown rs ts o p r more-had more-lacked e =
+    let t = refutes-lacks rs o r e in
+    refutes-taken ts p r (sub-trans (refutes-has rs o r e) more-had) ∙ some-meets _ _ (t .0) (t .1) (more-lacked .at (t .0) (t .2))
+
 -- ---- the first object that refutes
 
 -- of the first count objects, how many the slice has whole
@@ -219,6 +226,10 @@ consistent-apart rs o {q} e h = record { at = λ i a b. apart-lacks rs o i (apar
     grown i a =
         let l = closure-least rs (o .yes-marks) in
         closure-least rs _ .least c (l .member) (or-least (l .above) (single-sub i c (closure-least rs q .least c (l .member) h .at i a)))
+
+-- so it refutes nothing that follows
+pub consistent-spares : (rs : List (Implication ℕ)) (o : Object) (r : Implication ℕ) → contradicts rs o ≡ false → follows rs r ≡ true → refutes rs o r ≡ false
+consistent-spares rs o r e f = spares rs o r (λ h. apart-sub (follows-sub rs r f) (sub-refl _) (consistent-apart rs o e h))
 
 -- one that contradicts lacks every attribute of a word
 pub contradicting-lacks : (rs : List (Implication ℕ)) (o : Object) → contradicts rs o ≡ true → (i : ℕ) → i < wordAttributes → In i (lacks rs o)

@@ -1,4 +1,4 @@
--- The lowest place is the first at which the test holds (`lowest-at`), and there is one just if the test holds of some
+-- The lowest place is the first at which the test holds (`lowest-at`, `lowest-least`), and there is one just if the test holds of some
 -- member (`anywhere-true`, `anywhere-false`); how it moves along a list, and what members of which the test fails add.
 use mathlib.Core.Path.{_≡_, refl, ap, _∙_}
 use mathlib.Core.Bool.{Bool, true, false}
@@ -50,6 +50,14 @@ module _ {A : Type 0} (f : A → Bool) where
           → (i : ℕ) → i < suc (lowest f l) → f (getD (x ∷ l) i d) ≡ false
       earlier e u zero k = e
       earlier e u (suc i) k = u i (omega arith)
+
+  -- a place at which the test holds is no earlier
+  pub lowest-least : (l : List A) (d : A) (k : ℕ) → k < length l → f (getD l k d) ≡ true → lowest f l ≤ k
+  unfolding lowest
+  lowest-least [] d k h e = absurd (omega arith)
+  lowest-least (x ∷ l) d zero h e = omega (arith, lowest-found x l e)
+  lowest-least (x ∷ l) d (suc k) h e =
+      lowest-cases (λ i. i ≤ suc k) x l (λ t. omega arith) (λ t. omega (arith, lowest-least l d k (omega arith) e))
 
   -- the test fails of every member just if the lowest place is the length
   pub lowest-none : (l : List A) → All (λ x. f x ≡ false) l → lowest f l ≡ length l

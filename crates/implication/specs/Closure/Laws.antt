@@ -1,5 +1,6 @@
 -- The closure of a set is the least closed set above it, for every list of implications and every set (`closure-least`);
--- it is monotone and idempotent, stays inside M, and does not mind implications whose conclusion is empty.
+-- it is monotone and idempotent, stays inside M, and does not mind implications whose conclusion is empty. What follows from some implications
+-- follows from more (`follows-more`).
 use mathlib.Core.Path.{_≡_, refl, sym, ap, _∙_, subst}
 use mathlib.Core.Bool.{Bool, true, false}
 use mathlib.Core.List.{List, [], _∷_, _++_, List·Memᴰ, List·Memᴰ·head, List·Memᴰ·tail, Memᴰ·append-right, append-assoc}
@@ -255,6 +256,13 @@ pub closure-more : (rs ts : List (Implication ℕ)) (s : ℕ) → Sub (closure r
 closure-more rs ts s =
     let c = closure-least (rs ++ ts) s in
     closure-least rs s .least (closure (rs ++ ts) s) (all-take rs ts (c .member)) (c .above)
+
+-- what follows goes on following, and what is listed follows
+pub follows-more : (rs ts : List (Implication ℕ)) (r : Implication ℕ) → follows rs r ≡ true → follows (rs ++ ts) r ≡ true
+follows-more rs ts r e = sub-follows (rs ++ ts) r (sub-trans (follows-sub rs r e) (closure-more rs ts (r .premise)))
+
+pub listed-follows : (rs : List (Implication ℕ)) (r : Implication ℕ) → List·Memᴰ r rs → follows rs r ≡ true
+listed-follows rs r m = let c = closure-least rs (r .premise) in sub-follows rs r (c .member r m (c .above))
 
 -- one implication more: where the closure respects it, it is the closure under all
 pub one-more-end : (rs : List (Implication ℕ)) (r : Implication ℕ) (s : ℕ) → Respects words r (closure rs s) → closure (rs ++ (r ∷ [])) s ≡ closure rs s

@@ -114,7 +114,7 @@ module _ (s : State) (h : Reached s) where
   current-reached = h .explored .sound (s .current) (s .current) (h .explored .here .base) (λ z m i. i)
 
   -- the question's conclusion is new
-  question-new : Stands s → Sub (question s .conclusion) (s .current) → ⊥
+  pub question-new : Stands s → Sub (question s .conclusion) (s .current) → ⊥
   question-new t i =
       t .differs (sub-antisym (sub-trans (without-or (reachOf s) (s .current)) (or-least (sub-refl (s .current)) i)) current-reached)
 

@@ -17,12 +17,12 @@ use Rattle.theory.specs.Canonical.Unique.{unique-list}
 use Rattle.theory.specs.Exploration.{Explored}
 use Rattle.theory.specs.Exploration.Result as result
 use Rattle.attribute_set.specs.Sets.{Sub, full}
-use Rattle.attribute_set.specs.Sets.Laws.{sub-refl, sub-trans, apart-sub}
+use Rattle.attribute_set.specs.Sets.Laws.{sub-trans}
 use Rattle.attribute_set.specs.Words.{words}
 use Rattle.implication.specs.Closure.{implication, closure, follows}
 use Rattle.implication.specs.Closure.Laws.{closure-least, follows-sub, sub-follows}
 use Rattle.context.specs.Objects.{Object, refutes}
-use Rattle.context.specs.Objects.Laws.{spares, not-refutes, consistent-apart}
+use Rattle.context.specs.Objects.Laws.{not-refutes, consistent-spares}
 use Rattle.reach.specs.Reach.{reach}
 use Rattle.reach.specs.Reach.Laws.{reach-great}
 use Rattle.context.specs.Tables.{Table, AgreesImplication, AgreesObject}
@@ -59,8 +59,7 @@ module _ (s : State) (h : Reached s) where
   decided done r over = (holds, back)
     where
       holds : follows (force s) r ≡ true → Unrefuted s r
-      holds e o m = spares (force s) o r (λ i.
-          apart-sub (follows-sub (force s) r e) (sub-refl _) (consistent-apart (force s) o (h .consistent o m) i))
+      holds e o m = consistent-spares (force s) o r (h .consistent o m) e
 
       at-end : Explored words (Base s) (reach (force s) (s .n) (s .rows)) (s .list) (full (s .n))
       at-end = subst (λ q. Explored words (Base s) (reach (force s) (s .n) (s .rows)) (s .list) q) (finished-full s done) (h .explored)

@@ -22,6 +22,7 @@ traps = record {
   no-taken = refl;
   another-question = refl;
   yes-taken = refl;
+  second-yes = refl;
   tight = refl;
   tight-listed = refl;
   third-set = refl;

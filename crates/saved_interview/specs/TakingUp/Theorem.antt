@@ -1,5 +1,5 @@
--- Two saved interviews that were taken up hold the same list (`same-list-taken-up`); and every one that was taken up has demand 3 and its trace
--- (`held`).
+-- Two saved interviews that were taken up hold the same list (`same-list-taken-up`); and every one that was taken up has demand 3, its trace and what is
+-- said of every two moments of its log (`held`).
 use mathlib.Core.Path.{_≡_, refl, sym, _∙_, subst}
 use mathlib.Core.Logic.{inl, inr}
 use mathlib.Core.Bool.{Bool, true, false, true≢false}
@@ -15,13 +15,14 @@ use Rattle.call_logs.specs.declared.Log.{Log}
 use Rattle.call_logs.specs.declared.Log.the-variants.{Replayed, Short}
 use Rattle.saved_interview.specs.Demand3Whole.Theorem.{demand-3-whole, same-list-whole}
 use Rattle.saved_interview.specs.Trace.Proof.{trace}
+use Rattle.saved_interview.specs.BeforeTheEndWhole.Theorem.{shown-in-log}
 use Rattle.saved_interview.specs.TakingUp.{TurnAfter, TakenUp, interview, Held, Outcome, SameListTakenUp}
 
 pub held : (n used : ℕ) (background calls : List ℕ) (before : Session) (words : LogWords) (x : Coded) (after : Session) (words′ : LogWords)
     → TakenUp n used background calls before words x after words′ → Held n used background calls before words x after words′
 held n used background calls before words x after words′ t =
     let i = interview n used background calls before words x after words′ t in
-    record { taken-up = t; demand-3 = demand-3-whole i; trace = trace i }
+    record { taken-up = t; demand-3 = demand-3-whole i; trace = trace i; shown = shown-in-log i }
 
 pub same-list-taken-up : (n : ℕ) (background : List ℕ) → SameListTakenUp n background
 same-list-taken-up n background used used′ calls calls′ before before′ words words′ x x′ after after′ left left′ h h′ f f′ t r r′ =

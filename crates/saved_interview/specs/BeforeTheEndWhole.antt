@@ -1,0 +1,73 @@
+-- Results shown before the end, about the calls that run (02, request 8/13). What is said of two moments is `BeforeTheEnd` of the machine, the four
+-- sentences of the request with what follows from them: follows stays, refuted stays, never both, shortest. Here the moments are those of
+-- records and lent words: what a replay left, and what another replay left that was lent this; and every two moments of one log, with the
+-- words of its answers. `Theorem` proves them from the contract of `replay` and the machine's theorem.
+use mathlib.Core.Path.{_≡_}
+use mathlib.Core.List.{List}
+use mathlib.Core.Option.{none, some}
+use Prim.Native.Nat.{ℕ, _≤_, _<_}
+use lib.ListN.{length, getD}
+use Rattle.theory.specs.Lists.{All}
+use Rattle.theory.specs.Implications.{Implication}
+use Rattle.machine.specs.Checks.{State}
+use Rattle.machine.specs.Machine.{Call, follow, refute}
+use Rattle.machine.specs.Demand3.{OverM, SameConsequences}
+use Rattle.machine.specs.BeforeTheEnd.{BeforeTheEnd, AnsweredOnce}
+use Rattle.machine.specs.Calls.{stateOf}
+use Rattle.answer_words.specs.declared.Answer.{Answer as Coded}
+use Rattle.answer_words.specs.Codes.{coded}
+use Rattle.call_logs.specs.Replay.{logWords, AllMade}
+use Rattle.session.specs.declared.Session.{Session}
+use Rattle.saved_interview.specs.Demand3Whole.{Interview, opening-state, end-state, rules, end-list}
+use Rattle.saved_interview.specs.Trace.{stateAfter, answerAt, log}
+pub mod Theorem
+
+-- ---- two replays in turn
+
+-- calls made behind an interview, on the record and the words that it left: the words of the calls, those lent for their answers, and what
+-- replaying them left
+pub record Continued {n : ℕ} {background : List ℕ} (i : Interview n background) : Type 0 where
+  pub calls : List ℕ
+  pub answers : List ℕ
+  pub end : Session
+  pub rows-after : List ℕ
+  pub list-after : List ℕ
+  pub answers-after : List ℕ
+  -- the calls were made: what the contract of `replay` says where it answers Replayed
+  pub made : AllMade background calls (i .end) (logWords (i .rows-after) (i .list-after) answers) end (logWords rows-after list-after answers-after)
+
+abbrev pub later-state : {n : ℕ} {background : List ℕ} (i : Interview n background) → Continued i → State
+later-state {n} {background} i j = stateOf (j .end) (j .rows-after) (j .list-after) background
+
+-- of the record and the words that the interview left, in which somebody looks at the results, and of those that the calls behind it left
+pub record BeforeTheEndWhole {n : ℕ} {background : List ℕ} (i : Interview n background) (j : Continued i) : Type 0 where
+  pub moments : BeforeTheEnd (end-state i) (later-state i j)
+  -- 4. by the record's count: a list over M with the same consequences has at least as many rules
+  pub shortest : (l : List (Implication ℕ)) → All (OverM n) l → SameConsequences n (rules i) (end-list i) l → i .end .rules ≤ length l
+
+-- ---- one log
+
+module _ {n : ℕ} {background : List ℕ} (i : Interview n background) where
+  -- the state after the first k calls; by `Trace` it is the one that call k found
+  abbrev pub moment : ℕ → State
+  moment k = stateAfter (opening-state i) (log i) k
+
+  -- call k of the log is c
+  abbrev pub IsCall : ℕ → Call → Type 0
+  IsCall k c = getD (log i) k none ≡ some c
+
+  -- the words that it was answered with
+  abbrev pub wordsAt : ℕ → Coded
+  wordsAt k = answerAt (i .answers-after) k
+
+  pub record ShownInLog : Type 0 where
+    -- every two moments of the log
+    pub moments : (j k : ℕ) → j ≤ k → BeforeTheEnd (moment j) (moment k)
+    -- a question that was answered is not asked again
+    pub answered-once : (j k : ℕ) → j < k → (c : Call) → IsCall j c → AnsweredOnce (moment j) c (moment k)
+    -- in the words of the answers: "follows" (104, 1) is answered again, "refuted" (105 and the row) is answered again, at the same row or an
+    -- earlier one, and of one rule never both are answered, wherever in the log
+    pub follows-again : (r : Implication ℕ) (j k : ℕ) → j ≤ k → IsCall j (follow r) → IsCall k (follow r) → wordsAt j ≡ coded 104 1 0 → wordsAt k ≡ coded 104 1 0
+    pub refuted-again : (r : Implication ℕ) (j k p : ℕ) → j ≤ k → IsCall j (refute r) → IsCall k (refute r) → wordsAt j ≡ coded 105 p 0
+        → (q : ℕ) × (q ≤ p) × (wordsAt k ≡ coded 105 q 0)
+    pub never-answered-both : (r : Implication ℕ) (j k p : ℕ) → IsCall j (follow r) → IsCall k (refute r) → wordsAt j ≡ coded 104 1 0 → wordsAt k ≡ coded 105 p 0 → ⊥
