@@ -9,5 +9,5 @@ pub mod InTurn
 pub mod Facts
 pub mod Demand2
 pub mod Demand3
-pub mod BeforeTheEnd
 pub mod NoBefore
+pub mod ShownResults

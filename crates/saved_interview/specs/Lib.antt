@@ -1,4 +1,4 @@
-pub mod BeforeTheEndWhole
 pub mod Demand3Whole
 pub mod TakingUp
 pub mod Trace
+pub mod ShownResultsWhole

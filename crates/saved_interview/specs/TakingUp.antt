@@ -21,7 +21,7 @@ use Rattle.call_logs.specs.declared.Log.{Log}
 use Rattle.call_logs.specs.declared.Log.the-variants.{Replayed, Short}
 use Rattle.saved_interview.specs.Demand3Whole.{Interview, opening-state, end-state, script, Demand3Whole, SameLists}
 use Rattle.saved_interview.specs.Trace.{Trace}
-use Rattle.saved_interview.specs.BeforeTheEndWhole.{ShownInLog}
+use Rattle.saved_interview.specs.ShownResultsWhole.{ShownInLog}
 pub mod Theorem
 
 -- the answer to a log, the record that is left, and whether it changed: only where the calls were made

@@ -11,7 +11,7 @@ use Rattle.theory.specs.Implications.{Implication}
 use Rattle.machine.specs.Checks.{State}
 use Rattle.machine.specs.Machine.{Call, follow, refute, Answer, finished, moved, asked, taken, followed, refuted, unrefuted, refuting, refused, perform, Opening, opened, rejected}
 use Rattle.machine.specs.Facts.Refused.{small-number, opening-number}
-use Rattle.machine.specs.BeforeTheEnd.Laws.{never-answered-both}
+use Rattle.machine.specs.ShownResults.Laws.{never-answered-both}
 use Rattle.machine.specs.Calls.{openingFrom}
 use Rattle.answer_words.specs.declared.Answer.{Answer as Coded}
 use Rattle.answer_words.specs.Codes.{coded, codeOf, answerIn, codeOfOpening, isOpened}

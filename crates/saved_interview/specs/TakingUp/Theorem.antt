@@ -15,7 +15,7 @@ use Rattle.call_logs.specs.declared.Log.{Log}
 use Rattle.call_logs.specs.declared.Log.the-variants.{Replayed, Short}
 use Rattle.saved_interview.specs.Demand3Whole.Theorem.{demand-3-whole, same-list-whole}
 use Rattle.saved_interview.specs.Trace.Proof.{trace}
-use Rattle.saved_interview.specs.BeforeTheEndWhole.Theorem.{shown-in-log}
+use Rattle.saved_interview.specs.ShownResultsWhole.Theorem.{shown-in-log}
 use Rattle.saved_interview.specs.TakingUp.{TurnAfter, TakenUp, interview, Held, Outcome, SameListTakenUp}
 
 pub held : (n used : ℕ) (background calls : List ℕ) (before : Session) (words : LogWords) (x : Coded) (after : Session) (words′ : LogWords)

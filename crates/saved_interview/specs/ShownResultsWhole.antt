@@ -1,4 +1,4 @@
--- Results shown before the end, about the calls that run (02, request 8/13). What is said of two moments is `BeforeTheEnd` of the machine, the four
+-- Results shown before the end, about the calls that run (02, request 8/13). What is said of two moments is `ShownResults` of the machine, the four
 -- sentences of the request with what follows from them: follows stays, refuted stays, never both, shortest. Here the moments are those of
 -- records and lent words: what a replay left, and what another replay left that was lent this; and every two moments of one log, with the
 -- words of its answers. `Theorem` proves them from the contract of `replay` and the machine's theorem.
@@ -12,7 +12,7 @@ use Rattle.theory.specs.Implications.{Implication}
 use Rattle.machine.specs.Checks.{State}
 use Rattle.machine.specs.Machine.{Call, follow, refute}
 use Rattle.machine.specs.Demand3.{OverM, SameConsequences}
-use Rattle.machine.specs.BeforeTheEnd.{BeforeTheEnd, AnsweredOnce}
+use Rattle.machine.specs.ShownResults.{ShownResults, AnsweredOnce}
 use Rattle.machine.specs.Calls.{stateOf}
 use Rattle.answer_words.specs.declared.Answer.{Answer as Coded}
 use Rattle.answer_words.specs.Codes.{coded}
@@ -40,8 +40,8 @@ abbrev pub later-state : {n : ℕ} {background : List ℕ} (i : Interview n back
 later-state {n} {background} i j = stateOf (j .end) (j .rows-after) (j .list-after) background
 
 -- of the record and the words that the interview left, in which somebody looks at the results, and of those that the calls behind it left
-pub record BeforeTheEndWhole {n : ℕ} {background : List ℕ} (i : Interview n background) (j : Continued i) : Type 0 where
-  pub moments : BeforeTheEnd (end-state i) (later-state i j)
+pub record ShownResultsWhole {n : ℕ} {background : List ℕ} (i : Interview n background) (j : Continued i) : Type 0 where
+  pub moments : ShownResults (end-state i) (later-state i j)
   -- 4. by the record's count: a list over M with the same consequences has at least as many rules
   pub shortest : (l : List (Implication ℕ)) → All (OverM n) l → SameConsequences n (rules i) (end-list i) l → i .end .rules ≤ length l
 
@@ -62,7 +62,7 @@ module _ {n : ℕ} {background : List ℕ} (i : Interview n background) where
 
   pub record ShownInLog : Type 0 where
     -- every two moments of the log
-    pub moments : (j k : ℕ) → j ≤ k → BeforeTheEnd (moment j) (moment k)
+    pub moments : (j k : ℕ) → j ≤ k → ShownResults (moment j) (moment k)
     -- a question that was answered is not asked again
     pub answered-once : (j k : ℕ) → j < k → (c : Call) → IsCall j c → AnsweredOnce (moment j) c (moment k)
     -- in the words of the answers: "follows" (104, 1) is answered again, "refuted" (105 and the row) is answered again, at the same row or an

@@ -90,7 +90,7 @@ pub record QuestionsStay (shown later : State) : Type 0 where
   -- And nothing over M is open then (point 3 of demand 3).
   pub nothing-open : Finished shown → (r : Implication ℕ) → OverM (shown .n) r → Settled shown r
 
-pub record BeforeTheEnd (shown later : State) : Type 0 where
+pub record ShownResults (shown later : State) : Type 0 where
   pub results : ResultsStay shown later
   pub answers : AnswersStay shown later
   pub questions : QuestionsStay shown later
@@ -116,6 +116,6 @@ AnsweredOnce shown c later = AnswersQuestion c → (q : Implication ℕ) → Ask
 
 pub record Request8 : Type 0 where
   pub every-moment : (n : ℕ) (lent : Lent) (background : List (Implication ℕ)) (rows : List Object) (start : State)
-      → opening n lent background rows ≡ opened start → (calls more : List Call) → BeforeTheEnd (run start calls) (run start (calls ++ more))
+      → opening n lent background rows ≡ opened start → (calls more : List Call) → ShownResults (run start calls) (run start (calls ++ more))
   pub answered-once : (n : ℕ) (lent : Lent) (background : List (Implication ℕ)) (rows : List Object) (start : State)
       → opening n lent background rows ≡ opened start → (calls more : List Call) (c : Call) → AnsweredOnce (run start calls) c (run start (calls ++ (c ∷ more)))

@@ -29,8 +29,8 @@ use Rattle.machine.specs.Demand3.Theorem.{decided, shortest}
 use Rattle.machine.specs.Facts.{Fine}
 use Rattle.machine.specs.Facts.Laws.{checks-fine, fine-checks, checks-test}
 use Rattle.machine.specs.Facts.Kept as kept
-use Rattle.machine.specs.BeforeTheEnd.{RefutedBy, Refuted, Settled, firstRow, Asks, SaysFollows, SaysRefuted, ResultsStay, AnswersStay, QuestionsStay, BeforeTheEnd, AnswersQuestion, AnsweredOnce, Request8}
-use Rattle.machine.specs.BeforeTheEnd.Laws.{run-append, run-follows, run-refuted, run-settled, first-least, first-refutes, first-used, refuted-or-not, said-follows, says-follows, said-refuted, says-refuted, fine-apart, never-answered-both}
+use Rattle.machine.specs.ShownResults.{RefutedBy, Refuted, Settled, firstRow, Asks, SaysFollows, SaysRefuted, ResultsStay, AnswersStay, QuestionsStay, ShownResults, AnswersQuestion, AnsweredOnce, Request8}
+use Rattle.machine.specs.ShownResults.Laws.{run-append, run-follows, run-refuted, run-settled, first-least, first-refutes, first-used, refuted-or-not, said-follows, says-follows, said-refuted, says-refuted, fine-apart, never-answered-both}
 
 -- ---- a question
 
@@ -154,7 +154,7 @@ module _ (n : ℕ) (lent : Lent) (background : List (Implication ℕ)) (rows : L
       nothing-open = λ d r over. ⊎-elim inr (λ h. inl (decided shown (reached calls) d r over .1 h)) (refuted-or-not shown r);
     }
 
-    every-moment : BeforeTheEnd shown (run start (calls ++ more))
+    every-moment : ShownResults shown (run start (calls ++ more))
     every-moment = rw in-turn (record { results = results-stay; answers = answers-stay; questions = questions-stay })
 
   answered-once : (calls more : List Call) (c : Call) → AnsweredOnce (run start calls) c (run start (calls ++ (c ∷ more)))

@@ -27,7 +27,7 @@ use Rattle.machine.specs.Replies.Laws.{run-same, run-rows, run-list, row
 use Rattle.machine.specs.Demand3.{Unrefuted}
 use Rattle.machine.specs.Facts.{Fine}
 use Rattle.machine.specs.Facts.Laws.{checks-fine}
-use Rattle.machine.specs.BeforeTheEnd.{Follows, RefutedBy, Refuted, Settled, firstRow, SaysFollows, SaysRefuted}
+use Rattle.machine.specs.ShownResults.{Follows, RefutedBy, Refuted, Settled, firstRow, SaysFollows, SaysRefuted}
 
 -- ---- after any calls, from any state
 

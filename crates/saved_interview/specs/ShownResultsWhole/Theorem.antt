@@ -1,4 +1,4 @@
--- Request 8/13 of the calls that run: `before-the-end-whole` for two replays in turn, `shown-in-log` for every two moments of one log. The contract
+-- Request 8/13 of the calls that run: `shown-results-whole` for two replays in turn, `shown-in-log` for every two moments of one log. The contract
 -- of `replay` says that record and words hold the plain machine's state, and the answers' words are its answers; the rest is the machine's theorem.
 use mathlib.Core.Path.{_≡_, refl, sym, ap, _∙_, subst}
 use mathlib.Core.Logic.{_⊎_, inl, inr}
@@ -10,9 +10,9 @@ use lib.ListN.{length, getD, take}
 use Rattle.theory.specs.Implications.{Implication}
 use Rattle.attribute_set.specs.Sets.Laws.{lt-or-le}
 use Rattle.machine.specs.Machine.{Call, follow, refute, perform, run}
-use Rattle.machine.specs.BeforeTheEnd.{SaysFollows, SaysRefuted, BeforeTheEnd, AnsweredOnce}
-use Rattle.machine.specs.BeforeTheEnd.Laws.{run-append}
-use Rattle.machine.specs.BeforeTheEnd.Theorem.{request-8}
+use Rattle.machine.specs.ShownResults.{SaysFollows, SaysRefuted, ShownResults, AnsweredOnce}
+use Rattle.machine.specs.ShownResults.Laws.{run-append}
+use Rattle.machine.specs.ShownResults.Theorem.{request-8}
 use Rattle.answer_words.specs.declared.Answer.{Answer as Coded}
 use Rattle.answer_words.specs.Codes.{coded, codeOf, answerIn}
 use Rattle.answer_words.specs.Codes.Laws.{words-tell}
@@ -21,11 +21,11 @@ use Rattle.saved_interview.specs.Demand3Whole.{Interview, opening-state,
 use Rattle.saved_interview.specs.Demand3Whole.Theorem.{demand-3-whole}
 use Rattle.saved_interview.specs.Trace.{log}
 use Rattle.saved_interview.specs.Trace.Proof.{trace}
-use Rattle.saved_interview.specs.BeforeTheEndWhole.{Continued, later-state, BeforeTheEndWhole, moment, IsCall, wordsAt, ShownInLog}
+use Rattle.saved_interview.specs.ShownResultsWhole.{Continued, later-state, ShownResultsWhole, moment, IsCall, wordsAt, ShownInLog}
 
 module _ {n : ℕ} {background : List ℕ} (i : Interview n background) where
   -- the machine's theorem, from the opening
-  lasting : (calls more : List Call) → BeforeTheEnd (run (opening-state i) calls) (run (opening-state i) (calls ++ more))
+  lasting : (calls more : List Call) → ShownResults (run (opening-state i) calls) (run (opening-state i) (calls ++ more))
   lasting = request-8 .every-moment n _ (rules i) _ (opening-state i) (sym (i .opens))
 
   once : (calls more : List Call) (c : Call) → AnsweredOnce (run (opening-state i) calls) c (run (opening-state i) (calls ++ (c ∷ more)))
@@ -33,10 +33,10 @@ module _ {n : ℕ} {background : List ℕ} (i : Interview n background) where
 
 -- ---- two replays in turn
 
-pub before-the-end-whole : {n : ℕ} {background : List ℕ} (i : Interview n background) (j : Continued i) → BeforeTheEndWhole i j
-before-the-end-whole {n} i j = record {
-  moments = subst (λ s. BeforeTheEnd (end-state i) s) ends
-      (subst (λ s. BeforeTheEnd s (run (opening-state i) (script i ++ more))) (sym (i .made .holds)) (lasting i (script i) more));
+pub shown-results-whole : {n : ℕ} {background : List ℕ} (i : Interview n background) (j : Continued i) → ShownResultsWhole i j
+shown-results-whole {n} i j = record {
+  moments = subst (λ s. ShownResults (end-state i) s) ends
+      (subst (λ s. ShownResults s (run (opening-state i) (script i ++ more))) (sym (i .made .holds)) (lasting i (script i) more));
   shortest = demand-3-whole i .shortest;
 }
   where
@@ -73,10 +73,10 @@ call-below (x ∷ cs) zero c e = omega arith
 call-below (x ∷ cs) (suc j) c e = omega (arith, call-below cs j c e)
 
 module _ {n : ℕ} {background : List ℕ} (i : Interview n background) where
-  two-moments : (j k : ℕ) → j ≤ k → BeforeTheEnd (moment i j) (moment i k)
+  two-moments : (j k : ℕ) → j ≤ k → ShownResults (moment i j) (moment i k)
   two-moments j k h =
       let t = more-known (log i) j k h in
-      subst (λ l. BeforeTheEnd (moment i j) (run (opening-state i) l)) (sym (t .1)) (lasting i (known (take j (log i))) (t .0))
+      subst (λ l. ShownResults (moment i j) (run (opening-state i) l)) (sym (t .1)) (lasting i (known (take j (log i))) (t .0))
 
   answered-once : (j k : ℕ) → j < k → (c : Call) → IsCall i j c → AnsweredOnce (moment i j) c (moment i k)
   answered-once j k h c e =
