@@ -429,10 +429,16 @@ impl Interview {
         }
     }
 
+    /// What may be written to what is asked.
+    fn hint(&self, asked: bool) -> String {
+        let (first, last) = if asked { ("yes, or no, row or test", "") } else { ("row", "; or an empty line") };
+        let others = "or mark, a row, a property and yes or no; or list; or holds and a rule";
+        format!("Write {first} and {} marks: X yes, . no, ? unknown; {others}{last}.\n", self.attributes.len())
+    }
+
     /// One line to what is asked: the call for the log, nothing where something was shown, or what to say.
     fn reply(&mut self, line: &[u8], rule: [u64; 2]) -> Result<Option<Vec<u8>>, String> {
-        let ((said, rest), n, asked) = (first_word(line), self.attributes.len(), rule[1] != 0);
-        let about = self.rule(&String::from_utf8_lossy(rest));
+        let ((said, rest), asked) = (first_word(line), rule[1] != 0);
         match (said.to_ascii_lowercase().as_slice(), rest, self.named_row(rest), before_reply(rest)) {
             (b"yes" | b"y", b"", _, _) if asked => match self.accept() {
                 a if a.code == TAKEN => Ok(Some(b"yes".to_vec())),
@@ -453,15 +459,12 @@ impl Interview {
                 self.show_rules(!asked);
                 Ok(None)
             }
-            (b"holds" | b"h", _, _, _) if about.is_some() => {
-                println!("{}", self.known(about.unwrap_or_default())?);
+            (b"holds" | b"h", _, _, _) => {
+                let rule = self.rule(&String::from_utf8_lossy(rest)).ok_or_else(|| self.hint(asked))?;
+                println!("{}", self.known(rule)?);
                 Ok(None)
             }
-            _ => {
-                let (what, ending) = if asked { ("yes, or no, row or test", "") } else { ("row", "; or an empty line") };
-                let mark = "or mark, a row, a property and yes or no; or list; or holds and a rule";
-                Err(format!("Write {what} and {n} marks: X yes, . no, ? unknown; {mark}{ending}.\n"))
-            }
+            _ => Err(self.hint(asked)),
         }
     }
 

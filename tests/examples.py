@@ -10,9 +10,9 @@ import sys
 import tempfile
 
 PETS = "examples/tables/pets"
-MARK = "4 marks: X yes, . no, ? unknown; or mark, a row, a property and yes or no; or list; or holds and a rule"
-HINT = f"Write yes, or no, row or test and {MARK}.\n"
-LATE_HINT = f"Write row and {MARK}; or an empty line.\n"
+WAYS = "4 marks: X yes, . no, ? unknown; or mark, a row, a property and yes or no; or list; or holds and a rule"
+HINT = f"Write yes, or no, row or test and {WAYS}.\n"
+LATE_HINT = f"Write row and {WAYS}; or an empty line.\n"
 ANOTHER = "Finished. Another row or mark, or an empty line: "
 REFUTES = "It refutes the question.\n"
 NO_PROPERTY = "No property is called so.\n"

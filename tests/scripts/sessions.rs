@@ -66,14 +66,14 @@ const FILLED_CHANGE: &str = "step changed";
 const FILLED_FIRST: &str = "opened row";
 const FILLED_LATER: &str = "later row";
 
-/// Rules asked about twice in an interview, counted by what was said first: that the rule follows, that a row refutes it, or
-/// neither, each with the code that the question whether it is refuted had the second time; those that a row refutes once more
-/// where an earlier row was named then. And the questions that came up, by whether one was answered before.
+/// Rules asked about twice in an interview, counted by what was said first, that the rule follows, that a row refutes it, or
+/// neither, and by what is said then: 104, 105 or 106; those that a row refutes once more where an earlier row is named then.
+/// And the questions that came up, by whether one was answered before.
 pub const SHOWN: &[(&str, &[u64])] = &[
-    (SHOWN_FOLLOWS, &[106]),
+    (SHOWN_FOLLOWS, &[104]),
     (SHOWN_REFUTED, &[105]),
     (SHOWN_EARLIER, &[105]),
-    (SHOWN_OPEN, &[105, 106]),
+    (SHOWN_OPEN, &[104, 105, 106]),
     (ASKED_FIRST, &[102]),
     (ASKED_NEXT, &[102]),
 ];
@@ -744,7 +744,11 @@ impl Script<'_> {
                 (Said::Neither, _) => SHOWN_OPEN,
                 _ => return Err(format!("said otherwise before:\n{}\n{}", Call::Follows(*rule).show(), show_state(&state))),
             };
-            let code = if matches!(now, Said::RefutedBy(_)) { REFUTED } else { UNREFUTED };
+            let code = match now {
+                Said::Follows => FOLLOWS,
+                Said::RefutedBy(_) => REFUTED,
+                Said::Neither => UNREFUTED,
+            };
             self.tally.add(kind, code);
             if kind == SHOWN_REFUTED && now != *before {
                 self.tally.add(SHOWN_EARLIER, code);
@@ -904,13 +908,17 @@ impl Script<'_> {
         if self.chance(2) {
             return self.call_damaged(call);
         }
-        let left = self.call(self.state.clone(), call.clone())?.state;
-        if !honest {
-            self.state = left;
-            if matches!(call, Call::Open { .. } | Call::OpenAndReplay { .. }) {
-                (self.shown, self.answered) = (vec![], vec![]);
-            }
+        let Outcome { answer, state: left, .. } = self.call(self.state.clone(), call.clone())?;
+        if honest {
+            return Ok(());
         }
+        match call {
+            Call::Open { .. } | Call::OpenAndReplay { .. } => (self.shown, self.answered) = (vec![], vec![]),
+            Call::Yes | Call::No(_) if answer.code == ACCEPTED => self.answered.push(standing(&self.state)),
+            Call::Step if answer.code == ASKED => self.check_new((answer.first, answer.second))?,
+            _ => {}
+        }
+        self.state = left;
         Ok(())
     }
 

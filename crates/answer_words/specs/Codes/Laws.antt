@@ -11,7 +11,7 @@ use Rattle.theory.specs.Implications.{Implication}
 use Rattle.machine.specs.Checks.{State}
 use Rattle.machine.specs.Machine.{Call, follow, refute, Answer, finished, moved, asked, taken, followed, refuted, unrefuted, refuting, refused, perform, Opening, opened, rejected}
 use Rattle.machine.specs.Facts.Refused.{small-number, opening-number}
-use Rattle.machine.specs.ShownResults.Laws.{never-answered-both}
+use Rattle.machine.specs.ShownResults.Laws.{never-said-both}
 use Rattle.machine.specs.Calls.{openingFrom}
 use Rattle.answer_words.specs.declared.Answer.{Answer as Coded}
 use Rattle.answer_words.specs.Codes.{coded, codeOf, answerIn, codeOfOpening, isOpened}
@@ -67,7 +67,7 @@ pub never-both-coded : (s : State) (r : Implication ℕ) (x y : Coded) → x ≡
     → x ≡ coded 104 1 0 → (k : ℕ) → y ≡ coded 105 k 0 → ⊥
 unfolding answerIn
 never-both-coded s r x y e f a k b =
-    never-answered-both s r k (words-tell s (follow r) x e ∙ ap answerIn a) (words-tell s (refute r) y f ∙ ap answerIn b)
+    never-said-both s r k (words-tell s (follow r) x e ∙ ap answerIn a) (words-tell s (refute r) y f ∙ ap answerIn b)
 
 -- only a refusal has a code below 100
 pub small-code : (a : Answer) → codeOf a .code < 100 → (r : Refusal) × (a ≡ refused r)

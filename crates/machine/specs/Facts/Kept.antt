@@ -2,7 +2,7 @@
 -- not refused, a reply is refused with 8 to 12 alone, a test with 8 to 10, a filing with 9, 11 and 12, a filling with 32, 9, 33 and 11, and a
 -- read-only call about a rule with 4 alone, where the rule is not over M (`late-refusals`). From it: a step answers Finished just where the current set is M
 -- (`finished-at-full`, `full-finished`), and Asked just where a question stands (`asked-stands`, `stands-asked`). A finished interview stays
--- finished, whatever is called then (`stays-finished`). At the opening, 7 and the list's part of 3 and 4 cannot fail (`opening-closed`,
+-- finished, whatever is called then (`stays-finished`), with the list it has (`list-stays`). At the opening, 7 and the list's part of 3 and 4 cannot fail (`opening-closed`,
 -- `opening-list`).
 use mathlib.Core.Path.{_≡_, refl, sym, ap, _∙_, subst}
 use mathlib.Core.Bool.{Bool, true, false}
@@ -249,27 +249,29 @@ module _ (s : State) (f : Fine s) where
 
 -- ---- once finished
 
--- at M no call moves: a step finishes, a yes is refused, and a row more or a filled one leaves the current set
-full-stays : (s : State) (c : Call) → s .current ≡ full (s .n) → perform s c .after .current ≡ full (perform s c .after .n)
+-- at M no call moves and none adds a rule: a step finishes, a yes is refused, and a row more or a filled one leaves current set and list
+full-stays : (s : State) (c : Call) → s .current ≡ full (s .n)
+    → (perform s c .after .current ≡ full (perform s c .after .n)) × (perform s c .after .list ≡ s .list)
 unfolding performed checksOf
-full-stays s c d = perform-cases s c (λ t. t .after .current ≡ full (t .after .n)) (at-full c) (λ r e. d)
+full-stays s c d = perform-cases s c (λ t. (t .after .current ≡ full (t .after .n)) × (t .after .list ≡ s .list)) (at-full c) (λ r e. (d, refl))
   where
-    at-full : (x : Call) → firstFailing (checksOf s x) ≡ none → performed s x .after .current ≡ full (performed s x .after .n)
-    at-full step e = step-cases s (λ t. t .after .current ≡ full (t .after .n)) (λ _. d) (λ n _. absurd (n d)) (λ _ _. d)
+    at-full : (x : Call) → firstFailing (checksOf s x) ≡ none
+        → (performed s x .after .current ≡ full (performed s x .after .n)) × (performed s x .after .list ≡ s .list)
+    at-full step e = step-cases s (λ t. (t .after .current ≡ full (t .after .n)) × (t .after .list ≡ s .list)) (λ _. (d, refl)) (λ n _. absurd (n d)) (λ _ _. (d, refl))
     at-full accept e = absurd (checks-yes s (none-failing _ (passed-append (sessionChecks s []) (yesChecks s) e .1)) .stands .below d)
-    at-full (reject o) e = d
-    at-full (follow r) e = d
-    at-full (refute r) e = d
-    at-full (test o) e = d
-    at-full (file o) e = d
-    at-full (fill k m) e = d
+    at-full (reject o) e = (d, refl)
+    at-full (follow r) e = (d, refl)
+    at-full (refute r) e = (d, refl)
+    at-full (test o) e = (d, refl)
+    at-full (file o) e = (d, refl)
+    at-full (fill k m) e = (d, refl)
 
 run-finished : (s : State) (calls : List Call) → Reached s → Fine s → perform s step .answer ≡ finished → perform (run s calls) step .answer ≡ finished
 unfolding run
 run-finished s [] h f d = d
 run-finished s (c ∷ calls) h f d =
     let f′ = perform-fine s c h f in
-    run-finished (perform s c .after) calls (perform-reached s c h) f′ (full-finished (perform s c .after) f′ (full-stays s c (finished-full s d)))
+    run-finished (perform s c .after) calls (perform-reached s c h) f′ (full-finished (perform s c .after) f′ (full-stays s c (finished-full s d) .0))
 
 -- an interview that is finished stays finished, whatever is called then: filings and fillings after Finished too
 pub stays-finished : (n : ℕ) (lent : Lent) (background : List (Implication ℕ)) (rows : List Object) (start : State)
@@ -278,6 +280,12 @@ pub stays-finished : (n : ℕ) (lent : Lent) (background : List (Implication ℕ
 stays-finished n lent background rows start e calls more =
     run-finished (run start calls) more (run-reached start calls (opened-reached n lent background rows start e))
     (never-bad n lent background rows start e calls)
+
+-- and its list stays
+pub list-stays : (s : State) (calls : List Call) → s .current ≡ full (s .n) → run s calls .list ≡ s .list
+unfolding run
+list-stays s [] d = refl
+list-stays s (c ∷ calls) d = let t = full-stays s c d in list-stays (perform s c .after) calls (t .0) ∙ t .1
 
 -- ---- the opening
 

@@ -1,6 +1,6 @@
 -- After any calls the rules in force are those before them and more (`run-force`), and a row in use is the row it was with marks added
 -- (`run-row`), whatever the calls are and whatever state they begin in. So what follows goes on following (`run-follows`), and a row goes on
--- refuting (`run-refuted`). The two read-only calls never say both of one rule, in any state at all (`never-answered-both`).
+-- refuting (`run-refuted`). The two read-only calls never say both of one rule, in any state at all (`never-said-both`).
 use mathlib.Core.Path.{_≡_, refl, sym, ap, _∙_}
 use mathlib.Core.Logic.{_⊎_, inl, inr, ⊎-elim}
 use mathlib.Core.Bool.{Bool, true, false, true≢false}
@@ -150,8 +150,8 @@ module _ (s : State) (r : Implication ℕ) where
       true≢false (sym (h .by-row) ∙ consistent-spares (force s) o r consistent e)
 
   -- the two calls pass their checks only where no row contradicts
-  pub never-answered-both : (k : ℕ) → SaysFollows s r → SaysRefuted s r k → ⊥
+  pub never-said-both : (k : ℕ) → SaysFollows s r → SaysRefuted s r k → ⊥
   unfolding checksOf
-  never-answered-both k a b =
+  never-said-both k a b =
       let x = said-follows a in
       fine-apart (checks-fine s (r ∷ []) (x .0) .0) (x .1) (said-refuted k b .2)

@@ -21,7 +21,7 @@ use Rattle.reach.specs.Reach.Laws.{reach-apart}
 use Rattle.machine.specs.Checks.{Lent, State, force, reachOf, question, withQuestion, firstFailing, sessionChecks}
 use Rattle.machine.specs.Checks.Laws.{no-both, Stands}
 use Rattle.machine.specs.Machine.{Call, step, accept, reject, follow, refute, test, file, fill, taken, afterFiling, performed, checksOf, perform, run, opening, opened}
-use Rattle.machine.specs.Machine.Laws.{perform-cases}
+use Rattle.machine.specs.Machine.Laws.{perform-cases, finished-full}
 use Rattle.machine.specs.Replies.Laws.{run-same}
 use Rattle.machine.specs.Demand3.{Finished}
 use Rattle.machine.specs.Demand3.Invariant.{Reached, run-reached, opened-reached, question-new}
@@ -29,8 +29,8 @@ use Rattle.machine.specs.Demand3.Theorem.{decided, shortest}
 use Rattle.machine.specs.Facts.{Fine}
 use Rattle.machine.specs.Facts.Laws.{checks-fine, fine-checks, checks-test}
 use Rattle.machine.specs.Facts.Kept as kept
-use Rattle.machine.specs.ShownResults.{RefutedBy, Refuted, Settled, firstRow, Asks, SaysFollows, SaysRefuted, ResultsStay, AnswersStay, QuestionsStay, ShownResults, AnswersQuestion, AnsweredOnce, Request8}
-use Rattle.machine.specs.ShownResults.Laws.{run-append, run-follows, run-refuted, run-settled, first-least, first-refutes, first-used, refuted-or-not, said-follows, says-follows, said-refuted, says-refuted, fine-apart, never-answered-both}
+use Rattle.machine.specs.ShownResults.{RefutedBy, Refuted, Settled, firstRow, Asks, SaysFollows, SaysRefuted, ResultsStay, AnswersStay, QuestionsStay, ShownResults, Settles, AnsweredOnce, Request8}
+use Rattle.machine.specs.ShownResults.Laws.{run-append, run-follows, run-refuted, run-settled, first-least, first-refutes, first-used, refuted-or-not, said-follows, says-follows, said-refuted, says-refuted, fine-apart, never-said-both}
 
 -- ---- a question
 
@@ -49,7 +49,7 @@ asked-open s h f q a d =
         clear .at (m .0) (without-sub (reachOf s) (s .current) .at (m .0) (m .1)) (m .2)
 
 -- an accepted reply settles it: after a yes it follows, after a no the offered row refutes it
-reply-settles : (s : State) → Fine s → (c : Call) → AnswersQuestion c → (q : Implication ℕ) → Asks s q → perform s c .answer ≡ taken → Settled (perform s c .after) q
+reply-settles : (s : State) → Fine s → (c : Call) → Settles s c
 unfolding performed checksOf
 reply-settles s f step i q a = absurd i
 reply-settles s f accept i q a =
@@ -136,11 +136,11 @@ module _ (n : ℕ) (lent : Lent) (background : List (Implication ℕ)) (rows : L
 
     answers-stay : AnswersStay shown later
     answers-stay = record {
-      says-follows = follows-again;
-      says-refuted = refuted-again;
-      never-said-both = never-answered-both shown;
-      not-refuted-later = λ r k a b. never-answered-both later r k (follows-again r a) b;
-      not-followed-later = λ r k a b. let t = refuted-again r k a in never-answered-both later r (t .0) b (t .2);
+      follows-again = follows-again;
+      refuted-again = refuted-again;
+      never-said-both = never-said-both shown;
+      not-refuted-later = λ r k a b. never-said-both later r k (follows-again r a) b;
+      not-followed-later = λ r k a b. let t = refuted-again r k a in never-said-both later r (t .0) b (t .2);
     }
 
     still-finished : Finished shown → Finished later
@@ -150,6 +150,7 @@ module _ (n : ℕ) (lent : Lent) (background : List (Implication ℕ)) (rows : L
     questions-stay = record {
       not-asked = λ q d a. asked-open later reached-later fine-later q a (run-settled shown more q d);
       stays-finished = still-finished;
+      list-stays = λ d. kept.list-stays shown more (finished-full shown d);
       no-question-back = λ d q a. absurd (let e = still-finished d in let z : _≡_ {A = ℕ} 0 1 = cc in omega arith);
       nothing-open = λ d r over. ⊎-elim inr (λ h. inl (decided shown (reached calls) d r over .1 h)) (refuted-or-not shown r);
     }
@@ -164,4 +165,8 @@ module _ (n : ℕ) (lent : Lent) (background : List (Implication ℕ)) (rows : L
       (rw (run-append start calls (c ∷ more)) (run-settled (perform (run start calls) c .after) more q (reply-settles (run start calls) (fine calls) c i q a t)))
 
 pub request-8 : Request8
-request-8 = record { every-moment = every-moment; answered-once = answered-once }
+request-8 = record {
+  every-moment = every-moment;
+  settles = λ n lent background rows start o calls. reply-settles (run start calls) (fine n lent background rows start o calls);
+  answered-once = answered-once;
+}

@@ -1,12 +1,13 @@
--- Request 8/13 of the calls that run: `shown-results-whole` for two replays in turn, `shown-in-log` for every two moments of one log. The contract
+-- Request 8/13 of the calls that run: `shown-results-whole` for two replays in turn, which leave what one interview leaves (`one-interview`),
+-- `shown-in-log` for every two moments of one log. The contract
 -- of `replay` says that record and words hold the plain machine's state, and the answers' words are its answers; the rest is the machine's theorem.
 use mathlib.Core.Path.{_≡_, refl, sym, ap, _∙_, subst}
 use mathlib.Core.Logic.{_⊎_, inl, inr}
 use mathlib.Core.List.{List, [], _∷_, _++_, append-assoc}
 use mathlib.Core.Option.{Option, none, some, Option·some-ne-none}
-use Prim.Native.Nat.{ℕ, zero, suc, _≤_, _<_}
+use Prim.Native.Nat.{ℕ, zero, suc, _*_, _/_, _≤_, _<_}
 use native.Mathlib.Omega.{arith}
-use lib.ListN.{length, getD, take}
+use lib.ListN.{length, getD, take, drop}
 use Rattle.theory.specs.Implications.{Implication}
 use Rattle.attribute_set.specs.Sets.Laws.{lt-or-le}
 use Rattle.machine.specs.Machine.{Call, follow, refute, perform, run}
@@ -16,12 +17,13 @@ use Rattle.machine.specs.ShownResults.Theorem.{request-8}
 use Rattle.answer_words.specs.declared.Answer.{Answer as Coded}
 use Rattle.answer_words.specs.Codes.{coded, codeOf, answerIn}
 use Rattle.answer_words.specs.Codes.Laws.{words-tell}
-use Rattle.call_logs.specs.Replay.{replayCode, known, logOf}
+use Rattle.call_logs.specs.Replay.{replayCode, known, answersOf, logOf}
+use Rattle.call_logs.specs.Replay.Loop.{past-trans}
 use Rattle.saved_interview.specs.Demand3Whole.{Interview, opening-state, end-state, script, rules}
 use Rattle.saved_interview.specs.Demand3Whole.Theorem.{demand-3-whole}
-use Rattle.saved_interview.specs.Trace.{log}
-use Rattle.saved_interview.specs.Trace.Proof.{trace}
-use Rattle.saved_interview.specs.ShownResultsWhole.{Continued, later-state, ShownResultsWhole, moment, IsCall, wordsAt, ShownInLog}
+use Rattle.saved_interview.specs.Trace.{log, logWordsOf}
+use Rattle.saved_interview.specs.Trace.Proof.{trace, every-log}
+use Rattle.saved_interview.specs.ShownResultsWhole.{Continued, later-state, OneInterview, ShownResultsWhole, moment, IsCall, wordsAt, ShownInLog}
 
 module _ {n : ℕ} {background : List ℕ} (i : Interview n background) where
   -- the machine's theorem, from the opening
@@ -33,18 +35,56 @@ module _ {n : ℕ} {background : List ℕ} (i : Interview n background) where
 
 -- ---- two replays in turn
 
-pub shown-results-whole : {n : ℕ} {background : List ℕ} (i : Interview n background) (j : Continued i) → ShownResultsWhole i j
-shown-results-whole {n} i j = record {
-  moments = subst (λ s. ShownResults (end-state i) s) ends
-      (subst (λ s. ShownResults s (run (opening-state i) (script i ++ more))) (sym (i .made .holds)) (lasting i (script i) more));
-  shortest = demand-3-whole i .shortest;
-}
-  where
-    more : List Call
-    more = known (logOf (j .calls))
+module _ {n : ℕ} {background : List ℕ} (i : Interview n background) (more : Continued i) where
+  abbrev calls : List Call
+  calls = script i ++ known (logOf (more .calls))
 
-    ends : run (opening-state i) (script i ++ more) ≡ later-state i j
-    ends = run-append (opening-state i) (script i) more ∙ ap (λ s. run s more) (sym (i .made .holds)) ∙ sym (j .made .holds)
+  ends : run (opening-state i) calls ≡ later-state i more
+  ends = run-append (opening-state i) (script i) (known (logOf (more .calls))) ∙ ap (λ s. run s (known (logOf (more .calls)))) (sym (i .made .holds)) ∙ sym (more .made .holds)
+
+  -- one interview with the words of all calls, and with the answers that they have
+  both : Interview n background
+  both = record {
+    used = i .used;
+    rows = i .rows;
+    list = i .list;
+    answers = [];
+    calls = logWordsOf calls;
+    start = i .start;
+    end = more .end;
+    rows-after = more .rows-after;
+    list-after = more .list-after;
+    answers-after = answersOf (opening-state i) (logOf (logWordsOf calls)) ++ drop (length (logWordsOf calls) / 4 * 3) [];
+    opens = i .opens;
+    made = record {
+      holds = sym ends ∙ ap (run (opening-state i)) (sym (every-log calls));
+      answers = refl;
+      rows = past-trans (i .made .rows) (more .made .rows);
+      list = past-trans (i .made .list) (more .made .list);
+    };
+  }
+
+  pub one-interview : OneInterview i more
+  unfolding both
+  one-interview = record {
+    both = both;
+    used = refl;
+    rows = refl;
+    list = refl;
+    start = refl;
+    calls = every-log calls;
+    end = refl;
+    rows-after = refl;
+    list-after = refl;
+  }
+
+  pub shown-results-whole : ShownResultsWhole i more
+  shown-results-whole = record {
+    moments = subst (λ s. ShownResults (end-state i) s) ends
+        (subst (λ s. ShownResults s (run (opening-state i) calls)) (sym (i .made .holds)) (lasting i (script i) (known (logOf (more .calls)))));
+    shortest = demand-3-whole i .shortest;
+    one-interview = one-interview;
+  }
 
 -- ---- the calls of a log
 
@@ -99,11 +139,11 @@ module _ {n : ℕ} {background : List ℕ} (i : Interview n background) where
   shown-in-log = record {
     moments = two-moments;
     answered-once = answered-once;
-    follows-again = λ r j k h a b x. words-say k (follow r) b ∙ ap codeOf (two-moments j k h .answers .says-follows r (said j (follow r) (coded 104 1 0) a x));
+    follows-again = λ r j k h a b x. words-say k (follow r) b ∙ ap codeOf (two-moments j k h .answers .follows-again r (said j (follow r) (coded 104 1 0) a x));
     refuted-again = λ r j k p h a b x.
-        let t = two-moments j k h .answers .says-refuted r p (said j (refute r) (coded 105 p 0) a x) in
+        let t = two-moments j k h .answers .refuted-again r p (said j (refute r) (coded 105 p 0) a x) in
         (t .0, t .1, words-say k (refute r) b ∙ ap codeOf (t .2));
-    never-answered-both = λ r j k p a b x y.
+    never-both-in-log = λ r j k p a b x y.
         both r j k p (said j (follow r) (coded 104 1 0) a x) (said k (refute r) (coded 105 p 0) b y) (lt-or-le j k);
   }
     where
