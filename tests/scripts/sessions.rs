@@ -758,8 +758,8 @@ impl Script<'_> {
         let rule = (premise & all, conclusion & all);
         let said = self.said(&state, rule)?;
         if shown.len() == MAX_SHOWN {
-            let oldest = self.random.below(MAX_SHOWN);
-            shown.swap_remove(oldest);
+            let dropped = self.random.below(MAX_SHOWN);
+            shown.swap_remove(dropped);
         }
         shown.push((rule, said));
         self.shown = shown;

@@ -5,14 +5,14 @@
 use mathlib.Core.Path.{_≡_}
 use mathlib.Core.List.{List, _++_}
 use mathlib.Core.Option.{none, some}
-use Prim.Native.Nat.{ℕ, _≤_, _<_}
+use Prim.Native.Nat.{ℕ, _/_, _≤_, _<_}
 use lib.ListN.{length, getD}
 use Rattle.theory.specs.Lists.{All}
 use Rattle.theory.specs.Implications.{Implication}
 use Rattle.machine.specs.Checks.{State}
 use Rattle.machine.specs.Machine.{Call, follow, refute}
 use Rattle.machine.specs.Demand3.{OverM, SameConsequences}
-use Rattle.machine.specs.ShownResults.{ShownResults, AnsweredOnce}
+use Rattle.machine.specs.ShownResults.{ShownResults, Settles, AnsweredOnce}
 use Rattle.machine.specs.Calls.{stateOf}
 use Rattle.answer_words.specs.declared.Answer.{Answer as Coded}
 use Rattle.answer_words.specs.Codes.{coded}
@@ -49,7 +49,9 @@ module _ {n : ℕ} {background : List ℕ} (i : Interview n background) (more : 
     pub rows : both .rows ≡ i .rows
     pub list : both .list ≡ i .list
     pub start : both .start ≡ i .start
+    -- the calls are those of both, and the answers have room for them
     pub calls : script both ≡ script i ++ known (logOf (more .calls))
+    pub room : length (both .calls) / 4 ≤ length (both .answers) / 3
     -- record and words are left as the second left them
     pub end : both .end ≡ more .end
     pub rows-after : both .rows-after ≡ more .rows-after
@@ -80,7 +82,8 @@ module _ {n : ℕ} {background : List ℕ} (i : Interview n background) where
   pub record ShownInLog : Type 0 where
     -- every two moments of the log
     pub moments : (j k : ℕ) → j ≤ k → ShownResults (moment j) (moment k)
-    -- a question that was answered is not asked again
+    -- a question that was answered is settled, and not asked again
+    pub settles : (k : ℕ) (c : Call) → Settles (moment k) c
     pub answered-once : (j k : ℕ) → j < k → (c : Call) → IsCall j c → AnsweredOnce (moment j) c (moment k)
     -- in the words of the answers: "follows" (104, 1) is answered again, "refuted" (105 and the row) is answered again, at the same row or an
     -- earlier one, and of one rule never both are answered, wherever in the log

@@ -257,7 +257,7 @@ closure-more rs ts s =
     let c = closure-least (rs ++ ts) s in
     closure-least rs s .least (closure (rs ++ ts) s) (all-take rs ts (c .member)) (c .above)
 
--- what follows goes on following, and what is listed follows
+-- what follows from some implications follows from more, and what is listed follows
 pub follows-more : (rs ts : List (Implication ℕ)) (r : Implication ℕ) → follows rs r ≡ true → follows (rs ++ ts) r ≡ true
 follows-more rs ts r e = sub-follows (rs ++ ts) r (sub-trans (follows-sub rs r e) (closure-more rs ts (r .premise)))
 

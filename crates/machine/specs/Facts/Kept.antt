@@ -2,8 +2,8 @@
 -- not refused, a reply is refused with 8 to 12 alone, a test with 8 to 10, a filing with 9, 11 and 12, a filling with 32, 9, 33 and 11, and a
 -- read-only call about a rule with 4 alone, where the rule is not over M (`late-refusals`). From it: a step answers Finished just where the current set is M
 -- (`finished-at-full`, `full-finished`), and Asked just where a question stands (`asked-stands`, `stands-asked`). A finished interview stays
--- finished, whatever is called then (`stays-finished`), with the list it has (`list-stays`). At the opening, 7 and the list's part of 3 and 4 cannot fail (`opening-closed`,
--- `opening-list`).
+-- finished, whatever is called then (`stays-finished`), with the list it has (`list-stays`). At the opening, 7 and the list's part of 3 and 4
+-- cannot fail (`opening-closed`, `opening-list`).
 use mathlib.Core.Path.{_≡_, refl, sym, ap, _∙_, subst}
 use mathlib.Core.Bool.{Bool, true, false}
 use mathlib.Core.List.{List, [], _∷_, _++_, List·Memᴰ, List·Memᴰ·head, List·Memᴰ·tail, append-nil}

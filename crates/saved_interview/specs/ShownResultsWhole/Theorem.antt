@@ -1,13 +1,13 @@
 -- Request 8/13 of the calls that run: `shown-results-whole` for two replays in turn, which leave what one interview leaves (`one-interview`),
--- `shown-in-log` for every two moments of one log. The contract
--- of `replay` says that record and words hold the plain machine's state, and the answers' words are its answers; the rest is the machine's theorem.
+-- `shown-in-log` for every two moments of one log. The contract of `replay` says that record and words hold the plain machine's state, and the
+-- answers' words are its answers; the rest is the machine's theorem.
 use mathlib.Core.Path.{_≡_, refl, sym, ap, _∙_, subst}
 use mathlib.Core.Logic.{_⊎_, inl, inr}
 use mathlib.Core.List.{List, [], _∷_, _++_, append-assoc}
 use mathlib.Core.Option.{Option, none, some, Option·some-ne-none}
 use Prim.Native.Nat.{ℕ, zero, suc, _*_, _/_, _≤_, _<_}
 use native.Mathlib.Omega.{arith}
-use lib.ListN.{length, getD, take, drop}
+use lib.ListN.{length, getD, take, drop, replicate, length-replicate}
 use Rattle.theory.specs.Implications.{Implication}
 use Rattle.attribute_set.specs.Sets.Laws.{lt-or-le}
 use Rattle.machine.specs.Machine.{Call, follow, refute, perform, run}
@@ -42,19 +42,19 @@ module _ {n : ℕ} {background : List ℕ} (i : Interview n background) (more : 
   ends : run (opening-state i) calls ≡ later-state i more
   ends = run-append (opening-state i) (script i) (known (logOf (more .calls))) ∙ ap (λ s. run s (known (logOf (more .calls)))) (sym (i .made .holds)) ∙ sym (more .made .holds)
 
-  -- one interview with the words of all calls, and with the answers that they have
+  -- one interview with the words of all calls, lent as many words for their answers
   both : Interview n background
   both = record {
     used = i .used;
     rows = i .rows;
     list = i .list;
-    answers = [];
+    answers = replicate (length (logWordsOf calls)) 0;
     calls = logWordsOf calls;
     start = i .start;
     end = more .end;
     rows-after = more .rows-after;
     list-after = more .list-after;
-    answers-after = answersOf (opening-state i) (logOf (logWordsOf calls)) ++ drop (length (logWordsOf calls) / 4 * 3) [];
+    answers-after = answersOf (opening-state i) (logOf (logWordsOf calls)) ++ drop (length (logWordsOf calls) / 4 * 3) (replicate (length (logWordsOf calls)) 0);
     opens = i .opens;
     made = record {
       holds = sym ends ∙ ap (run (opening-state i)) (sym (every-log calls));
@@ -73,6 +73,7 @@ module _ {n : ℕ} {background : List ℕ} (i : Interview n background) (more : 
     list = refl;
     start = refl;
     calls = every-log calls;
+    room = omega (arith, length-replicate {A = ℕ} (length (logWordsOf calls)) 0);
     end = refl;
     rows-after = refl;
     list-after = refl;
@@ -138,15 +139,16 @@ module _ {n : ℕ} {background : List ℕ} (i : Interview n background) where
   unfolding answerIn
   shown-in-log = record {
     moments = two-moments;
+    settles = λ k. request-8 .settles n _ (rules i) _ (opening-state i) (sym (i .opens)) (known (take k (log i)));
     answered-once = answered-once;
     follows-again = λ r j k h a b x. words-say k (follow r) b ∙ ap codeOf (two-moments j k h .answers .follows-again r (said j (follow r) (coded 104 1 0) a x));
     refuted-again = λ r j k p h a b x.
         let t = two-moments j k h .answers .refuted-again r p (said j (refute r) (coded 105 p 0) a x) in
         (t .0, t .1, words-say k (refute r) b ∙ ap codeOf (t .2));
     never-both-in-log = λ r j k p a b x y.
-        both r j k p (said j (follow r) (coded 104 1 0) a x) (said k (refute r) (coded 105 p 0) b y) (lt-or-le j k);
+        never r j k p (said j (follow r) (coded 104 1 0) a x) (said k (refute r) (coded 105 p 0) b y) (lt-or-le j k);
   }
     where
-      both : (r : Implication ℕ) (j k p : ℕ) → SaysFollows (moment i j) r → SaysRefuted (moment i k) r p → (j < k) ⊎ (k ≤ j) → ⊥
-      both r j k p f g (inl h) = two-moments j k (omega arith) .answers .not-refuted-later r p f g
-      both r j k p f g (inr h) = two-moments k j h .answers .not-followed-later r p g f
+      never : (r : Implication ℕ) (j k p : ℕ) → SaysFollows (moment i j) r → SaysRefuted (moment i k) r p → (j < k) ⊎ (k ≤ j) → ⊥
+      never r j k p f g (inl h) = two-moments j k (omega arith) .answers .not-refuted-later r p f g
+      never r j k p f g (inr h) = two-moments k j h .answers .not-followed-later r p g f

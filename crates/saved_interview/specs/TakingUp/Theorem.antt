@@ -1,5 +1,5 @@
--- Two saved interviews that were taken up hold the same list (`same-list-taken-up`); and every one that was taken up has demand 3, its trace and what is
--- said of every two moments of its log (`held`).
+-- Two saved interviews that were taken up hold the same list (`same-list-taken-up`); and every one that was taken up has demand 3, its trace
+-- and what is said of every two moments of its log (`held`).
 use mathlib.Core.Path.{_≡_, refl, sym, _∙_, subst}
 use mathlib.Core.Logic.{inl, inr}
 use mathlib.Core.Bool.{Bool, true, false, true≢false}
