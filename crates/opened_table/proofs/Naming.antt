@@ -73,8 +73,7 @@ module _ {M : Type 1} (𝓤 : URA M) (H : Heap 𝓤) (A : Atoms 𝓤) (W : Given
           peeks ! (file-of (κs .0)) (Is (file-of (κs .0))) (shows 𝓤 H A (file-of (κs .0))) r (v ∷ []) (λ is.
           land ! (from ! (stop !)) (init ! 16 refl (shr-slice-lawful 𝓤 H A W (named 0) (κs .0) u8 .typed r _ is .0)) $
           returns ! (look ! 16 refl) $
-          move ! (16 ∷ 17 ∷ []) $ freed ! $ move ! (14 ∷ 15 ∷ []) $ freed ! $ move ! (12 ∷ 13 ∷ []) $ freed ! $ move ! (10 ∷ 11 ∷ []) $ freed ! $
-          move ! (8 ∷ 9 ∷ []) $ freed ! $ move ! (6 ∷ 7 ∷ []) $ freed ! $ move ! (4 ∷ 5 ∷ []) $ freed ! $ free0 ! $
+          freed ! 16 refl refl $ freed ! 14 refl refl $ freed ! 12 refl refl $ freed ! 10 refl refl $ freed ! 8 refl refl $ freed ! 6 refl refl $ freed ! 4 refl refl $ free0 ! $
           suffices ! _ (ends-at 𝓤 H A f.ended (all-told (f.signature .params) (f.ended .kept)) c W ((κs, qs, tt, a, at), g) v r (left κs a ws)
           (tt, (tt, (tt, tt)))) $
           move ! (3 ∷ []) $ use1 W (raw (c κs a .ensures g r (atExit f.ended κs a (left κs a ws)))) (same r ws) $ move ! (1 ∷ 2 ∷ 3 ∷ 0 ∷ []) $

@@ -1,7 +1,7 @@
--- The locals and statements of the code that is walked.
+-- The locals and statements of the code that is walked, and its functions.
 use Prim.Native.Nat.{ℕ}
-use mathlib.Core.List.{[], _∷_}
-use mir.Syntax.{Width, Lifetime, Mutability, Local, Opd, Body, named, erased, mut, imm, w8, w64, tyInt, tyBool, tyUnit, tyRef, place, field, deref, copy, rvOpd, addrOf, aggregate, assign, local, valueLocal}
+use mathlib.Core.List.{List, [], _∷_}
+use mir.Syntax.{Width, Lifetime, Mutability, Local, Opd, Body, Fn, named, erased, mut, imm, w8, w64, tyInt, tyBool, tyUnit, tyRef, place, field, deref, copy, rvOpd, addrOf, aggregate, assign, local, valueLocal}
 use denote.Memory.{pointee}
 use denote.Slice.{sliceTy}
 use denote.Struct.Declared.{Declared, row, shape}
@@ -74,3 +74,8 @@ stores-field i D j k = assign (place i (deref (layout (shape D)) ∷ [])) (rvOpd
 
 abbrev pub stores-local : ℕ → Declared → ℕ → Body
 stores-local i D j = assign (place i (deref (layout (shape D)) ∷ [])) (rvOpd (copy (place j [])))
+
+-- ---- a function of a number of lifetimes, without bounds, and of a number of parameters
+
+abbrev pub function : ℕ → ℕ → List Local → Body → Fn
+function ls ps locals body = record { lifetimes = ls; outlives = []; params = ps; locals = locals; body = body }

@@ -4,5 +4,7 @@ pub mod Behind
 pub mod Calls
 pub mod Lent
 pub mod Code
+pub mod Params
+pub mod Passing
 pub mod Tools
 pub mod Lending

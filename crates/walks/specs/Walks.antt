@@ -4,12 +4,12 @@
 --     Walk             what a walk shows: from the arguments' machine values, what the contract says of its exit
 --     meets            a walk from the arguments' machine values meets the contract
 --     called           a call: the result, the tokens, what is said of the last values, and what the callee ensures
---     learnt           what is known of a struct that is owned
+--     landed           a call's result, a struct, lands in an empty local, with what is known of its fields
 --     copied, field-of     a local is read, and a field of one.        sets     an empty local is given a value
 --     freed            a local is freed, whatever it holds
 --     handed           what stands at the exit of a call that is passed on, put together
-use mathlib.Core.Path.{_≡_, refl, ap}
-use Prim.Native.Nat.{ℕ, _+_}
+use mathlib.Core.Path.{_≡_, refl, ap, sym, subst}
+use Prim.Native.Nat.{ℕ, suc, _+_}
 use mathlib.Core.List.{List, [], _∷_}
 use mathlib.Core.Option.{some as some-field}
 use lib.Dec.{T as Holds}
@@ -20,20 +20,20 @@ use mir.Val.{Val, WT, hasTy}
 use base.Logic.{SProp, ent, sep, emp, via, fst∗, id⊢}
 use base.Fml.{Share, Fml, fat, froom, fdies}
 use prog.Memory.{fieldOf}
-use prog.Wp.{Heap, Env, spotOf, Calls, Loops, WpFn, Tables}
+use prog.Wp.{Heap, Env, Spot, spotOf, Calls, Loops, WpFn, Tables}
 use ghost.Atoms.{Atoms, sem}
 use contract.Lifetimes.{Lfts, Shares, AllOutlive}
-use types.Kit.{Given, Item, nth, put, ‵, raw, _⊛_, some, later, _$_, Goal, Seq, Step, step, Post, prop, runs, lands, frees, move, use0, use1, split, join, pick, frame, await, done}
-use types.Run.{Reads, Opd, Opds, Rv, look, init, stop, fld, from, load, assigns, forget, free1}
+use types.Kit.{Given, Item, mean, ⋆, nth, del, put, pull, push, ‵, raw, _⊛_, some, later, _$_, Goal, Seq, Step, step, Post, prop, runs, lands, frees, move, drop, use0, use1, split, join, pick, frame, await, done}
+use types.Run.{Reads, Finds, Opd, Opds, Rv, look, init, stop, fld, from, load, land, assigns, forget, free1}
 use sound.WpLaws.{FmC, WpFn-mono}
 use denote.RattleType.{owns, flat}
 use denote.Exit.{Kept, left}
 use denote.Laws.{Is, Are, Ises, Spells, Tellss, Typed, valss, shows}
 use denote.Signature.{Slot, typeAt, typesAt}
 use denote.Steps.{only, peeks}
-use denote.Struct.Declared.{Declared, fields, row}
+use denote.Struct.Declared.{Declared, fields, row, shape}
 use denote.Struct.Laws as LL
-use denote.Struct.Struct.{AreAll}
+use denote.Struct.Struct.{AreAll, layout}
 use denote.Triple.Statement.{Contract, Triple}
 use denote.Triple.Call.{calls-at}
 use denote.Triple.Clauses.{Ended, Clauses, Lasts, atExit, lasts, closing}
@@ -84,9 +84,18 @@ module _ {M : Type 1} (𝓤 : URA M) (H : Heap 𝓤) (A : Atoms 𝓤) (W : Given
         (walked 𝓤 H A E stays c (WpFn 𝓤 H (𝓣 .C) (𝓣 .Λ) f) sp tl (λ κs qs bounds a g are. via 𝓤 _ (fst∗ 𝓤 _ (c κs a .requires g))
         (k κs qs bounds a g are)))
 
+module _ {M : Type 1} {𝓤 : URA M} {H : Heap 𝓤} {A : Atoms 𝓤} {K : Type 0} {W : Given 𝓤 H A} where
+  -- an item is put first
+  drawn : K → {Γ : List (Item 𝓤)} (n : ℕ) {i : Item 𝓤} {G : Goal 𝓤 H} → nth 𝓤 H A n Γ ≡ i → Step K W (i ∷ del 𝓤 H A n Γ) G Γ G
+  drawn t {Γ} n {i} e = step (λ s. record {
+    prf = via 𝓤 (sep 𝓤 (mean 𝓤 H A i) (⋆ 𝓤 H A (del 𝓤 H A n Γ)))
+        (subst (λ (j : Item 𝓤). ent 𝓤 (⋆ 𝓤 H A Γ) (sep 𝓤 (mean 𝓤 H A j) (⋆ 𝓤 H A (del 𝓤 H A n Γ)))) e (pull 𝓤 H A n Γ))
+        (via 𝓤 (⋆ 𝓤 H A (i ∷ del 𝓤 H A n Γ)) (push 𝓤 H A i (del 𝓤 H A n Γ)) (s .prf));
+  })
+
 module _ {M : Type 1} {𝓤 : URA M} {H : Heap 𝓤} {A : Atoms 𝓤} {K : Type 0} {W : Given 𝓤 H A} {Γ : List (Item 𝓤)} where
   -- what whoever owns a struct's value knows: its type, its spelling, and each field's relation
-  pub learnt : K → {G : Goal 𝓤 H} (D : Declared) (L : LL.Laws D) (r : D .D) (v : Val)
+  learnt : K → {G : Goal 𝓤 H} (D : Declared) (L : LL.Laws D) (r : D .D) (v : Val)
       → (Typed (row D .mir) (v ∷ []) → v ≡ LL.val D L r → AreAll (fields D) (D .to r) (valss (fields D) (LL.spells (D .parts) L) (D .to r))
       → Seq K W (‵ (row D .own r (v ∷ [])) ∷ Γ) G)
       → Seq K W (‵ (row D .own r (v ∷ [])) ∷ Γ) G
@@ -117,6 +126,17 @@ module _ {M : Type 1} {𝓤 : URA M} {H : Heap 𝓤} {A : Atoms 𝓤} {K : Type 
         ⊛ raw (c (y .0 .0) (y .0 .3) .ensures (y .1) r (atExit D (y .0 .0) (y .0 .3) ws)))))) (id⊢ 𝓤 _) $ await t tt $
         pick t (λ r. split t $ move t (1 ∷ []) $ pick t (λ ws. split t $ move t (2 ∷ []) $ split t $ move t (1 ∷ 0 ∷ []) $ k v r ws)))
 
+    pub landed : K → {C : Calls 𝓤 H} {Λ : Loops 𝓤 H} {q : Post 𝓤 H} {i : ℕ} {rest : Body} (D : Declared) (L : LL.Laws D) (r : D .D) (v : Val)
+        (b n : ℕ) → nth 𝓤 H A n Γ ≡ ‵ (froom (layout (shape D)) b 0) → spotOf 𝓤 H E i ≡ (layout (shape D), b, 0)
+        → (AreAll (fields D) (D .to r) (valss (fields D) (LL.spells (D .parts) L) (D .to r))
+        → Seq K W (put 𝓤 H A n (‵ (fat fullShare (layout (shape D)) b 0 (LL.val D L r))) Γ) (runs C Λ E rest q))
+        → Seq K W (‵ (row D .own r (v ∷ [])) ∷ Γ) (lands C Λ E (place i []) v rest q)
+    landed t {C} {Λ} {q} {i} {rest} D L r v b n e at k =
+        learnt t D L r v (λ typed spelled made.
+        subst (λ (w : Val). Seq K W (‵ (row D .own r (w ∷ [])) ∷ Γ) (lands C Λ E (place i []) w rest q)) (sym spelled)
+        (land t (subst (λ (sp : Spot 𝓤 H). Finds K W (‵ (row D .own r (LL.val D L r ∷ [])) ∷ Γ) E (place i []) sp) at (from t (stop t)))
+        (init t (suc n) e (subst (λ (w : Val). Typed (row D .mir) (w ∷ [])) spelled typed .0)) $ drop t $ k made))
+
     -- a local is read, and a field of one
     pub copied : K → {i : ℕ} (n : ℕ) {q : Share} {v : Val} → nth 𝓤 H A n Γ ≡ ‵ (fat q (spotOf 𝓤 H E i .0) (spotOf 𝓤 H E i .1) 0 v)
         → Opd K W Γ E (copy (place i [])) v
@@ -134,9 +154,10 @@ module _ {M : Type 1} {𝓤 : URA M} {H : Heap 𝓤} {A : Atoms 𝓤} {K : Type 
         (runs C Λ E (seq (assign (place i []) rv) rest) q)
     sets t r n e wt = assigns t r (from t (stop t)) (init t n e wt)
 
-    pub freed : K → {τ : Ty} {b : ℕ} {v : Val} {G : Goal 𝓤 H} → Step K W Γ (frees E G) (‵ (fat fullShare τ b 0 v) ∷ ‵ (fdies τ b) ∷ Γ)
-        (frees ((τ, b) ∷ E) G)
-    freed t = step (λ s. forget t 0 refl $ free1 t $ s)
+    pub freed : K → (n : ℕ) {τ : Ty} {b : ℕ} {v : Val} {G : Goal 𝓤 H} → nth 𝓤 H A (suc n) Γ ≡ ‵ (fdies τ b)
+        → nth 𝓤 H A n (del 𝓤 H A (suc n) Γ) ≡ ‵ (fat fullShare τ b 0 v)
+        → Step K W (del 𝓤 H A n (del 𝓤 H A (suc n) Γ)) (frees E G) Γ (frees ((τ, b) ∷ E) G)
+    freed t n e e′ = step (λ s. drawn t (suc n) e $ drawn t (suc n) e′ $ forget t 0 refl $ free1 t $ s)
 
 module _ {M : Type 1} {𝓤 : URA M} {H : Heap 𝓤} {A : Atoms 𝓤} {K : Type 0} {W : Given 𝓤 H A} where
   pub handed : K → {P R : Fml} {X Y : SProp 𝓤} → Seq K W (‵ R ∷ raw X ∷ ‵ P ∷ raw Y ∷ [])

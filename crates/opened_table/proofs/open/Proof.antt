@@ -9,7 +9,7 @@ use denote.Triple.Spec.{tripleOf}
 use denote.Triple.Table.{entered, cited}
 use Rattle.answer_words.proofs.Answer as N
 use Rattle.answer_words.proofs.Answer.Laws as N′
-use Rattle.walks.specs.Tools.{refl, URA, fullShare, named, Val, ent, emp, flft, fat, Heap, Calls, Loops, Atoms, Lfts, Shares, Given, raw, qed, move, drop, rewrite, suffices, use1, look, init, stop, from, and-then, no-more, land, returns, enter, alloc1, alloc0, params1, pass1, pass0, free0, agg, whole, sub, look-in, FmC, fmOf, owns, Spells, valss, u8, ptr-vals, mut-tells, slice-vals, shr-slice-tells, shr-slice-lawful, typesAt, Lasts, atExit, Args, Vals, Triple, ends-at, all-told, Agreed, Walk, meets, called, learnt, copied, field-of, sets, freed, stores, _∷_, [], _⊛_, _$_, _∵_, !, ‵}
+use Rattle.walks.specs.Tools.{refl, URA, named, ent, emp, flft, Heap, Calls, Loops, Atoms, Lfts, Shares, Given, raw, qed, move, suffices, use1, look, init, and-then, no-more, returns, enter, alloc1, alloc0, params1, pass1, pass0, free0, agg, whole, sub, look-in, FmC, fmOf, owns, Spells, valss, u8, ptr-vals, mut-tells, slice-vals, shr-slice-tells, shr-slice-lawful, typesAt, Lasts, atExit, Args, Vals, Triple, ends-at, all-told, Agreed, Walk, meets, called, landed, copied, field-of, sets, freed, stores, _∷_, [], _⊛_, _$_, _∵_, !, ‵}
 use Rattle.opened_table.specs.declared.Table.{Table}
 use Rattle.opened_table.specs.declared.Opening.{Opening}
 use Rattle.opened_table.proofs.Opening as S
@@ -67,15 +67,14 @@ module _ {M : Type 1} (𝓤 : URA M) (H : Heap 𝓤) (A : Atoms 𝓤) (W : Given
         move ! (12 ∷ 13 ∷ []) $ called ! fm core.ended (core.clauses 𝓤 H A at-mem run) known to (id⊢ 𝓤 _)
         (and-then ! (copied ! 5 refl) (no-more !)) (λ v r ws.
         -- [the result; the file's token; what is said of the file; what is ensured; the locals; the answer's; what the file owns]
-        learnt ! S.the-type S′.the-laws r v (λ typed spelled parts.
-        land ! (from ! (stop !)) (init ! 4 refl (typed .0)) $ rewrite ! 4 (λ (w : Val). ‵ (fat fullShare S′.mir l3 0 w)) spelled refl $ drop ! $
+        landed ! S.the-type S′.the-laws r v l3 3 refl refl (λ parts.
         move ! (11 ∷ 12 ∷ 13 ∷ []) $
         stores ! N.the-type N′.the-laws N′.the-plain (a .1 .0) (r .answer) (parts .0) 5 3 refl refl (sub ! 0 refl (whole !)) $
         -- [the answer's; the file's token; what is said of the file; what is ensured; the locals; what the file owns]
         sets ! (agg ! (and-then ! (copied ! 10 refl) (and-then ! (field-of ! refl (look-in ! 6 (sub ! 1 refl (whole !)))) (no-more !))))
         12 refl (of-typed 𝓤 H A W (κs .0) (a .0) (r .layout) (are .0) (parts .1 .0)) $
         returns ! (look ! 12 refl) $
-        move ! (12 ∷ 13 ∷ []) $ freed ! $ move ! (10 ∷ 11 ∷ []) $ freed ! $ move ! (8 ∷ 9 ∷ []) $ freed ! $ move ! (6 ∷ 7 ∷ []) $ freed ! $ free0 ! $
+        freed ! 12 refl refl $ freed ! 10 refl refl $ freed ! 8 refl refl $ freed ! 6 refl refl $ free0 ! $
         -- [the answer's; the file's token; what is said of the file; what is ensured; what the file owns]
         suffices ! _ (ends-at 𝓤 H A f.ended (all-told (f.signature .params) (f.ended .kept)) (f.clauses 𝓤 H A at-mem run) W
         ((κs, qs, tt, a, at), tt) _ (made r) (left r) (tt, (tt, tt))) $

@@ -65,8 +65,7 @@ module _ {M : Type 1} (𝓤 : URA M) (H : Heap 𝓤) (A : Atoms 𝓤) (W : Given
         peeks ! N.the-row (Is N.the-row) (shows 𝓤 H A N.the-row) r (v ∷ []) (λ is.
         land ! (from ! (stop !)) (init ! 16 refl (EL.lawful N.the-type N′.the-laws 𝓤 H A W tt .typed r _ is .0)) $
         returns ! (look ! 16 refl) $
-        move ! (16 ∷ 17 ∷ []) $ freed ! $ move ! (14 ∷ 15 ∷ []) $ freed ! $ move ! (12 ∷ 13 ∷ []) $ freed ! $ move ! (10 ∷ 11 ∷ []) $ freed ! $
-        move ! (8 ∷ 9 ∷ []) $ freed ! $ move ! (6 ∷ 7 ∷ []) $ freed ! $ move ! (4 ∷ 5 ∷ []) $ freed ! $ free0 ! $
+        freed ! 16 refl refl $ freed ! 14 refl refl $ freed ! 12 refl refl $ freed ! 10 refl refl $ freed ! 8 refl refl $ freed ! 6 refl refl $ freed ! 4 refl refl $ free0 ! $
         suffices ! _ (ends-at 𝓤 H A f.ended (all-told (f.signature .params) (f.ended .kept)) (f.clauses 𝓤 H A at-mem run) W
         ((κs, qs, tt, a, at), tt) v r (tt, ws .1 .1) (tt, (tt, tt))) $
         handed-on !)))))))))
