@@ -23,7 +23,7 @@ pub fn put_lines(out: &mut [u8], at: usize, bytes: &[u8], count: usize) -> usize
         if bytes.len() <= from {
             return to;
         }
-        let line = table_lines::line_at(bytes, from);
+        let line = line_ends::line_at(bytes, from);
         let end = from + line.size;
         to = put_line(out, to, &bytes[from..end]);
         from += line.step;
@@ -43,7 +43,7 @@ pub fn size_of_lines(bytes: &[u8], count: usize) -> usize
         if bytes.len() <= from {
             return size;
         }
-        let line = table_lines::line_at(bytes, from);
+        let line = line_ends::line_at(bytes, from);
         size += line.size;
         from += line.step;
         i += 1;

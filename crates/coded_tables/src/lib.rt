@@ -1,9 +1,7 @@
 // The table reader with its answers in three words: the layout that the caller keeps goes in, and comes back where it may have changed.
-ghost use mathlib.Core.Path.{_≡_};
 ghost use Rattle.table_layout.specs.Layout.{openedOf};
 ghost use Rattle.complete_tables.specs.Complete.{openedComplete};
-ghost use Rattle.name_spans.specs.Spans.{objectSpan, attributeSpan};
-ghost use Rattle.coded_tables.specs.Tables.{FindsTable, ReadsMarks, codeOfSpan};
+ghost use Rattle.coded_tables.specs.Tables.{FindsTable, ReadsMarks};
 
 // The answer to a call, the layout after it, and whether it differs from the one before.
 pub struct Found {
@@ -58,35 +56,4 @@ pub fn read_marks(
         table_layout::Opened::Found(_) => answer_words::in_words(answer_words::Answer::TAKEN, 0, 0),
         table_layout::Opened::Refused(refusal) => answer_words::answer_of_refusal(refusal),
     }
-}
-
-fn answer_of_span(span: name_spans::Span) -> answer_words::Answer
-    ensures { λ r. ⌜ r ≡ codeOfSpan span ⌝ }
-{
-    if span.size == 0 {
-        return answer_words::in_words(answer_words::Answer::NO_ROOM, 0, 0);
-    }
-    answer_words::in_words(
-        answer_words::Answer::TAKEN,
-        span.at as u64,
-        span.size as u64,
-    )
-}
-
-// Where the name of an object stands in the file: its offset and how many bytes it has; 3 where there is no such name.
-pub fn object_name(layout: table_layout::Layout, file: &[u8], number: usize) -> answer_words::Answer
-    ensures { λ r. ⌜ r ≡ codeOfSpan (objectSpan (now (file .entry)) layout number) ⌝ }
-{
-    answer_of_span(name_spans::object_span(file, layout, number))
-}
-
-// Where the name of an attribute stands, as for objects.
-pub fn attribute_name(
-    layout: table_layout::Layout,
-    file: &[u8],
-    number: usize,
-) -> answer_words::Answer
-    ensures { λ r. ⌜ r ≡ codeOfSpan (attributeSpan (now (file .entry)) layout number) ⌝ }
-{
-    answer_of_span(name_spans::attribute_span(file, layout, number))
 }

@@ -17,6 +17,6 @@ fn answer_of(written: Written) -> Answer
 pub fn write_table(n: usize, used: usize, rows: &[u64], names: &[u8], out: &mut [u8]) -> Answer
     ensures { λ r. ⌜ WritesCoded n used rows names out r ⌝ }
 {
-    let written = table_writing::write_table(n, used, rows, names, out);
+    let written = table_writer::write_table(n, used, rows, names, out);
     answer_of(written)
 }

@@ -20,7 +20,7 @@ fn complete_from(file: &[u8], layout: Layout) -> Opened
         if !line_bytes::all_pass(&file[at..end], table_bytes::ByteKind::Known) {
             return Opened::Refused(session::refuse(29, at));
         }
-        at = table_lines::next_at(file, end);
+        at = line_ends::next_at(file, end);
         i += 1;
     }
     Opened::Found(layout)

@@ -64,7 +64,7 @@ pub fn first_contradiction(
 ) -> usize
     ensures { λ r. ⌜ r ≡ lowest (contradicts (withRule background list rules premise conclusion)) (objectsOf count (now (rows .entry))) ⌝ }
 {
-    let whole = implication::smaller(count, rows.len() / 2);
+    let whole = closures::smaller(count, rows.len() / 2);
     let place = contradiction_among(rows, whole, list, rules, background, premise, conclusion);
     if place < whole { place } else { count }
 }

@@ -20,7 +20,7 @@ pub fn answer(file: &[u8; FILE_BYTES], size: usize, out: &mut [u8; OUTPUT_BYTES]
     ensures { λ r. ⌜ Answers file size out r ⌝ }
 {
     let bytes: &[u8] = file;
-    let end = implication::smaller(size, bytes.len());
+    let end = closures::smaller(size, bytes.len());
     table_interview::hold(
         &bytes[..end],
         Session::ROWS,
@@ -35,7 +35,7 @@ pub fn explain(file: &[u8; FILE_BYTES], size: usize, report: &mut [u8; REPORT_BY
     ensures { λ r. ⌜ Puts report 0 r (explanation (take size (now (file .entry)))) ⌝ }
 {
     let bytes: &[u8] = file;
-    let end = implication::smaller(size, bytes.len());
+    let end = closures::smaller(size, bytes.len());
     refusal_reports::put_explanation(report, 0, &bytes[..end])
 }
 

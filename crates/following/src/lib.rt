@@ -12,7 +12,7 @@ pub fn follows_from(
 ) -> bool
     ensures { λ r. ⌜ r ≡ follows (inForce (now (background .entry)) (now (list .entry)) count) (implication premise conclusion) ⌝ }
 {
-    conclusion & implication::closure_of(background, list, count, premise) == conclusion
+    conclusion & closures::closure_of(background, list, count, premise) == conclusion
 }
 
 // The closure of a set under the implications in force and one more.
@@ -28,7 +28,7 @@ pub fn closure_with(
 {
     let mut s = set;
     loop {
-        let t = implication::closure_of(background, list, count, s);
+        let t = closures::closure_of(background, list, count, s);
         if premise & t != premise {
             return t;
         }

@@ -31,16 +31,16 @@ pub fn advance(
 {
     let n = interview.n;
     let current = interview.current;
-    if current == attribute_set::full_set(n) {
+    if current == set_words::full_set(n) {
         return Beaten {
             interview,
             at: finish(rows, list, interview, out, at),
             last: true,
         };
     }
-    let reach = written_marks::reach_of(n, rows, interview.rows, current);
+    let reach = written_reach::reach_of(n, rows, interview.rows, current);
     if reach != current {
-        let conclusion = attribute_set::difference(reach, current);
+        let conclusion = set_words::difference(reach, current);
         return table_replies::reply(table, objects, rows, list, interview, conclusion, out, at);
     }
     Beaten {
@@ -48,7 +48,7 @@ pub fn advance(
             n,
             rows: interview.rows,
             rules: interview.rules,
-            current: next_set::next_of(&table[..0], list, interview.rules, n, current),
+            current: closed_sets::next_of(&table[..0], list, interview.rules, n, current),
             changes: interview_replies::count_change(interview.changes),
         },
         at,

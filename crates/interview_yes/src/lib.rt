@@ -34,7 +34,7 @@ pub fn say_yes(
             n,
             rows: interview.rows,
             rules: rules + 1,
-            current: next_set::next_of(&rows[..0], list, rules + 1, n, premise),
+            current: closed_sets::next_of(&rows[..0], list, rules + 1, n, premise),
             changes: interview_replies::count_change(interview.changes),
         },
         at: end,

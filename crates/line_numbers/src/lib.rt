@@ -9,7 +9,7 @@ pub fn line_number(file: &[u8], place: usize) -> usize
     let mut number = 1;
     let mut at = 0;
     while at < file.len() {
-        let next = table_lines::next_at(file, at);
+        let next = line_ends::next_at(file, at);
         if place < next {
             return number;
         }

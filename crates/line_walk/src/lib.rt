@@ -17,7 +17,7 @@ pub fn walk_line(file: &[u8], at: usize, kind: Kind) -> Walk
     if file.len() <= at {
         return Walk::Failed(session::refuse(table_kinds::absent_of(kind), at));
     }
-    let line = table_lines::line_at(file, at);
+    let line = line_ends::line_at(file, at);
     let end = at + line.size;
     let number = line_faults::fault_of(&file[at..end], kind);
     if number != 0 {

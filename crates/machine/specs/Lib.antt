@@ -4,10 +4,3 @@ pub mod Calls
 pub mod Marked
 pub mod Edges
 pub mod Traps
-pub mod Replies
-pub mod InTurn
-pub mod Facts
-pub mod Demand2
-pub mod Demand3
-pub mod NoBefore
-pub mod ShownResults

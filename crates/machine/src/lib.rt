@@ -1,1 +1,1 @@
-// The plain machine and its theorems have no code: they stand in specs/.
+// The plain machine has no code: its definitions and its computed cases stand in specs/.

@@ -38,7 +38,7 @@ pub fn check_marks(
     if used <= row {
         return size_checks::Verdict::Passed;
     }
-    let whole = implication::smaller(used, rows.len() / 2);
+    let whole = closures::smaller(used, rows.len() / 2);
     let double = first_double(rows, whole, row);
     if double < whole {
         return size_checks::refused(5, double);

@@ -18,7 +18,7 @@ fn skip(file: &[u8], start: usize, count: usize) -> usize
     let mut at = start;
     let mut i = 0;
     while i < count {
-        at = table_lines::next_at(file, at);
+        at = line_ends::next_at(file, at);
         i += 1;
     }
     at
@@ -36,7 +36,7 @@ fn span_of(file: &[u8], layout: Layout, count: usize, start: usize, number: usiz
         return Span { at: 0, size: 0 };
     }
     let at = skip(file, start, number);
-    let line = table_lines::line_at(file, at);
+    let line = line_ends::line_at(file, at);
     Span {
         at,
         size: line.size,

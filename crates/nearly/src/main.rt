@@ -28,11 +28,11 @@ fn main() {
         return;
     }
     let mut out = [0u8; OUTPUT_BYTES];
-    let told = nearly_output::answer(&file, input.size, &mut out);
+    let told = nearly_answers::answer(&file, input.size, &mut out);
     if !told.handed.whole {
         io::write_all(STDERR_FILENO, b"standard output cannot be written\n");
     }
     let mut report = [0u8; REPORT_BYTES];
-    let explained = nearly_output::explain(&file, input.size, &mut report);
+    let explained = nearly_answers::explain(&file, input.size, &mut report);
     standard_streams::say(&report, explained);
 }

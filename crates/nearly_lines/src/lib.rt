@@ -21,7 +21,7 @@ fn put_line(
     requires { ⌜ InRange n used (length (now rows)) percent ⌝ }
     ensures { λ r. ⌜ Puts out at r (nearlyLines n percent (objectsOf used (now (rows .entry))) (premise ∷ [])) ⌝ }
 {
-    let listed = nearly_always::nearly_always(n, used, rows, premise, percent);
+    let listed = row_counts::nearly_always(n, used, rows, premise, percent);
     output_lines::put_rule(out, at, n, b"N ", premise, listed, b"\n")
 }
 
@@ -38,7 +38,7 @@ fn put_pairs(
     requires { ⌜ InRange n used (length (now rows)) percent × (i < n) ⌝ }
     ensures { λ r. ⌜ Puts out at r (nearlyLines n percent (objectsOf used (now (rows .entry))) (pairsWith i n)) ⌝ }
 {
-    let single = attribute_set::raised(0, i);
+    let single = set_words::raised(0, i);
     let mut to = at;
     let mut j = n;
     while i + 1 < j {
@@ -50,7 +50,7 @@ fn put_pairs(
             used,
             rows,
             percent,
-            attribute_set::raised(single, j),
+            set_words::raised(single, j),
         );
     }
     to
@@ -69,7 +69,7 @@ fn put_with(
     requires { ⌜ InRange n used (length (now rows)) percent × (i < n) ⌝ }
     ensures { λ r. ⌜ Puts out at r (nearlyLines n percent (objectsOf used (now (rows .entry))) (2 ^ i ∷ pairsWith i n)) ⌝ }
 {
-    let alone = put_line(out, at, n, used, rows, percent, attribute_set::raised(0, i));
+    let alone = put_line(out, at, n, used, rows, percent, set_words::raised(0, i));
     put_pairs(out, alone, n, used, rows, percent, i)
 }
 
@@ -98,7 +98,7 @@ pub fn put_lines(
 ) -> usize
     ensures { λ r. ⌜ PutsAll out at n used (now (rows .entry)) percent r ⌝ }
 {
-    if !nearly_always::in_range(n, used, rows.len(), percent) {
+    if !row_counts::in_range(n, used, rows.len(), percent) {
         return at;
     }
     put_each(out, at, n, used, rows, percent)

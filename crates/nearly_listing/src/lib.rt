@@ -27,7 +27,7 @@ pub fn list_nearly(n: usize, used: usize, rows: &[u64], premise: u64, percent: u
     let checked = session_checks::earlier(marked, within);
     match checked {
         Verdict::Refused(refusal) => Nearly::Refused(refusal),
-        Verdict::Passed => Nearly::Listed(nearly_always::nearly_always(
+        Verdict::Passed => Nearly::Listed(row_counts::nearly_always(
             n,
             used,
             rows,

@@ -1,19 +1,14 @@
-// What the program nearly answers to the bytes that it has read (02, request 3/13): its output, and beside it why a file is refused.
-ghost use lib.ListN.{length, take};
+// The output of the program nearly (02, request 3/13), handed over: the lines of a table file, or the line of its refusal.
+ghost use lib.ListN.{length};
 ghost use Rattle.context.specs.Objects.{objectsOf};
-ghost use Rattle.table_layout.specs.Layout.{openedOf};
-ghost use Rattle.text.specs.Page.{Puts};
-ghost use Rattle.refusal_reports.specs.Reports.{explanationOf};
 ghost use Rattle.handed_output.specs.Handing.{Tells, Writes};
 ghost use Rattle.nearly_always.specs.Nearly.{InRange};
 ghost use Rattle.short_premises.specs.Premises.{premises};
 ghost use Rattle.nearly_lines.specs.Lines.{nearlyLines};
-ghost use Rattle.nearly_output.specs.Output.{percentage, nearlyOutput, Answers};
+ghost use Rattle.nearly_output.specs.Output.{percentage, nearlyOutput};
 use handed_output::Handed;
 use handed_output::Told;
 use session::Session;
-use standard_streams::REPORT_BYTES;
-use table_layout::FILE_BYTES;
 use table_layout::Opened;
 
 // The bytes of a buffer that holds every output whole.
@@ -53,22 +48,4 @@ pub fn list_file(file: &[u8], out: &mut [u8; OUTPUT_BYTES], fd: i32) -> Told
             before,
         ),
     }
-}
-
-// The output for the first so many bytes of the buffer.
-pub fn answer(file: &[u8; FILE_BYTES], size: usize, out: &mut [u8; OUTPUT_BYTES]) -> Told
-    ensures { λ r. ⌜ Answers file size out r ⌝ }
-{
-    let bytes: &[u8] = file;
-    let end = implication::smaller(size, bytes.len());
-    list_file(&bytes[..end], out, libc::STDOUT_FILENO)
-}
-
-// Why the file in the first so many bytes of the buffer is refused; nothing where it is a table.
-pub fn explain(file: &[u8; FILE_BYTES], size: usize, report: &mut [u8; REPORT_BYTES]) -> usize
-    ensures { λ r. ⌜ Puts report 0 r (explanationOf (take size (now (file .entry))) (openedOf (take size (now (file .entry))))) ⌝ }
-{
-    let bytes: &[u8] = file;
-    let end = implication::smaller(size, bytes.len());
-    refusal_reports::put_opened(report, 0, &bytes[..end])
 }

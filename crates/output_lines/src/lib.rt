@@ -50,7 +50,7 @@ fn put_listed(out: &mut [u8], at: usize, n: usize, premise: u64, conclusion: u64
 pub fn put_list(out: &mut [u8], at: usize, n: usize, list: &[u64], count: usize) -> usize
     ensures { λ r. ⌜ Puts out at r (listLines n (wholeRules count (now (list .entry)))) ⌝ }
 {
-    let whole = implication::smaller(count, list.len() / 2);
+    let whole = closures::smaller(count, list.len() / 2);
     let mut to = at;
     let mut i = 0;
     while i < whole {

@@ -46,10 +46,10 @@ pub fn check_outside(
 ) -> bool
     ensures { λ r. ⌜ Outside (given session rows list background) (implication premise conclusion) r ⌝ }
 {
-    let used = implication::smaller(session.rows, rows.len() / 2);
-    let rules = implication::smaller(session.rules, list.len() / 2);
+    let used = closures::smaller(session.rows, rows.len() / 2);
+    let rules = closures::smaller(session.rules, list.len() / 2);
     let current = session.current;
-    let m = attribute_set::full_set(session.n);
+    let m = set_words::full_set(session.n);
     if strange_among(rows, used, m) {
         return true;
     }

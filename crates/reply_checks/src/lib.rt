@@ -74,7 +74,7 @@ pub fn check_test(
     match standing {
         standing::Standing::Open(question) => ask(
             question,
-            row_tests::check_tested_row(
+            offered_rows::check_tested_row(
                 n,
                 background,
                 list,

@@ -1,25 +1,23 @@
-// The checks of an offered row, in document 01's order: 9 and 10 of a test to a question that stands, 9 and 11 of a filing; 9, 33 and 11 of
-// marks offered for a row.
+// The tests behind the checks of an offered row: of its marks alone (9), against known marks (33), and against the rules in force (11).
 ghost use mathlib.Core.Path.{_≡_};
 ghost use Rattle.implication.specs.Closure.{implication};
 ghost use Rattle.context.specs.Objects.{object, contradicts};
 ghost use Rattle.context.specs.Filling.{reverses};
 ghost use Rattle.context.specs.Parts.{lentForce};
 ghost use Rattle.machine.specs.Checks.{badRow};
-ghost use Rattle.row_tests.specs.Tests.{RowTested, RowFits, MarksFit};
 
 // The tests of check 9: a row with an attribute outside M, or with one marked both ways.
-fn bad_row(n: usize, yes: u64, no: u64) -> bool
+pub fn bad_row(n: usize, yes: u64, no: u64) -> bool
     ensures { λ r. ⌜ r ≡ badRow n (object yes no) ⌝ }
 {
-    if outside_check::strange_pair(yes, no, attribute_set::full_set(n)) {
+    if outside_check::strange_pair(yes, no, set_words::full_set(n)) {
         return true;
     }
     yes & no != 0
 }
 
 // The test of check 33: a yes mark would become a no, or a no a yes.
-fn reverses_mark(known_yes: u64, known_no: u64, yes: u64, no: u64) -> bool
+pub fn reverses_mark(known_yes: u64, known_no: u64, yes: u64, no: u64) -> bool
     ensures { λ r. ⌜ r ≡ reverses (object «known_yes» «known_no») (object yes no) ⌝ }
 {
     if known_yes & no != 0 {
@@ -29,75 +27,8 @@ fn reverses_mark(known_yes: u64, known_no: u64, yes: u64, no: u64) -> bool
 }
 
 // The test of check 11: a row that contradicts the implications in force.
-fn row_contradicts(background: &[u64], list: &[u64], rules: usize, yes: u64, no: u64) -> bool
+pub fn row_contradicts(background: &[u64], list: &[u64], rules: usize, yes: u64, no: u64) -> bool
     ensures { λ r. ⌜ r ≡ contradicts (lentForce background list rules) (object yes no) ⌝ }
 {
-    implication::closure_of(background, list, rules, yes) & no != 0
-}
-
-// Checks 9 and 10 of a row offered to the question with this premise and conclusion.
-pub fn check_tested_row(
-    n: usize,
-    background: &[u64],
-    list: &[u64],
-    rules: usize,
-    yes: u64,
-    no: u64,
-    premise: u64,
-    conclusion: u64,
-) -> size_checks::Verdict
-    ensures { λ r. ⌜ RowTested n (lentForce background list rules) (implication premise conclusion) (object yes no) r ⌝ }
-{
-    if bad_row(n, yes, no) {
-        return size_checks::refused(9, 0);
-    }
-    if !context::refuted_by(background, list, rules, yes, no, premise, conclusion) {
-        return size_checks::refused(10, 0);
-    }
-    size_checks::Verdict::Passed
-}
-
-// Checks 9 and 11 of a row offered to be filed.
-pub fn check_filed_row(
-    n: usize,
-    background: &[u64],
-    list: &[u64],
-    rules: usize,
-    yes: u64,
-    no: u64,
-) -> size_checks::Verdict
-    ensures { λ r. ⌜ RowFits n (lentForce background list rules) (object yes no) r ⌝ }
-{
-    if bad_row(n, yes, no) {
-        return size_checks::refused(9, 0);
-    }
-    if row_contradicts(background, list, rules, yes, no) {
-        return size_checks::refused(11, 0);
-    }
-    size_checks::Verdict::Passed
-}
-
-// Checks 9, 33 and 11 of marks offered for a row with known marks.
-pub fn check_added_marks(
-    n: usize,
-    background: &[u64],
-    list: &[u64],
-    rules: usize,
-    known_yes: u64,
-    known_no: u64,
-    yes: u64,
-    no: u64,
-) -> size_checks::Verdict
-    ensures { λ r. ⌜ MarksFit n (lentForce background list rules) (object «known_yes» «known_no») (object yes no) r ⌝ }
-{
-    if bad_row(n, yes, no) {
-        return size_checks::refused(9, 0);
-    }
-    if reverses_mark(known_yes, known_no, yes, no) {
-        return size_checks::refused(33, 0);
-    }
-    if row_contradicts(background, list, rules, known_yes | yes, known_no | no) {
-        return size_checks::refused(11, 0);
-    }
-    size_checks::Verdict::Passed
+    closures::closure_of(background, list, rules, yes) & no != 0
 }

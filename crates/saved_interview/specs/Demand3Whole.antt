@@ -13,8 +13,8 @@ use Rattle.implication.specs.Closure.{implicationsOf, allImplications, follows}
 use Rattle.context.specs.Objects.{Object, objectsOf, refutes}
 use Rattle.machine.specs.Checks.{State}
 use Rattle.machine.specs.Machine.{Call, run, opened}
-use Rattle.machine.specs.Replies.{agreedIn, offeredIn, filledBy, FillsOther, replies, Truthful}
-use Rattle.machine.specs.Demand3.{Finished, OverM, SameConsequences}
+use Rattle.demands.specs.Replies.{agreedIn, offeredIn, filledBy, FillsOther, replies, Truthful}
+use Rattle.demands.specs.Demand3.{Finished, OverM, SameConsequences}
 use Rattle.machine.specs.Calls.{stateOf, openingFrom}
 use Rattle.call_logs.specs.Replay.{known, answersOf, logOf, PastKept, logWords, AllMade}
 use Rattle.session.specs.declared.Session.{Session}

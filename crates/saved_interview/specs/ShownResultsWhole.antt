@@ -11,8 +11,8 @@ use Rattle.theory.specs.Lists.{All}
 use Rattle.theory.specs.Implications.{Implication}
 use Rattle.machine.specs.Checks.{State}
 use Rattle.machine.specs.Machine.{Call, follow, refute}
-use Rattle.machine.specs.Demand3.{OverM, SameConsequences}
-use Rattle.machine.specs.ShownResults.{ShownResults, Settles, AnsweredOnce}
+use Rattle.demands.specs.Demand3.{OverM, SameConsequences}
+use Rattle.demands.specs.ShownResults.{ShownResults, Settles, AnsweredOnce}
 use Rattle.machine.specs.Calls.{stateOf}
 use Rattle.answer_words.specs.declared.Answer.{Answer as Coded}
 use Rattle.answer_words.specs.Codes.{coded}

@@ -11,8 +11,8 @@ use Rattle.session.specs.declared.Session.{Session}
 use Rattle.session.specs.declared.Refusal.{Refusal}
 use Rattle.context.specs.Objects.{Object}
 use Rattle.machine.specs.Machine.{opened, rejected}
-use Rattle.machine.specs.Replies.{Truthful}
-use Rattle.machine.specs.Demand3.{Finished}
+use Rattle.demands.specs.Replies.{Truthful}
+use Rattle.demands.specs.Demand3.{Finished}
 use Rattle.machine.specs.Calls.{stateOf, Words, Record, openingFrom}
 use Rattle.answer_words.specs.declared.Answer.{Answer as Coded}
 use Rattle.answer_words.specs.Codes.{coded, LentAnswer}

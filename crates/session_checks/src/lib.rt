@@ -14,7 +14,7 @@ fn check_closed(
 ) -> size_checks::Verdict
     ensures { λ r. ⌜ Closed background list rules current r ⌝ }
 {
-    if implication::closure_of(background, list, rules, current) != current {
+    if closures::closure_of(background, list, rules, current) != current {
         return size_checks::refused(7, 0);
     }
     size_checks::Verdict::Passed

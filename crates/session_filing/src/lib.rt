@@ -19,7 +19,7 @@ pub fn file_checked(
 {
     let used = session.rows;
     let rules = session.rules;
-    let outcome = row_tests::check_filed_row(session.n, background, list, rules, yes, no);
+    let outcome = offered_rows::check_filed_row(session.n, background, list, rules, yes, no);
     if let size_checks::Verdict::Refused(refusal) = outcome {
         return session_replies::refused(session, refusal);
     }

@@ -31,7 +31,7 @@ fn check_fill(
     let rules = session.rules;
     let known_yes = rows[row * 2];
     let known_no = rows[row * 2 + 1];
-    row_tests::check_added_marks(
+    offered_rows::check_added_marks(
         session.n,
         background,
         list,

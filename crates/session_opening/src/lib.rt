@@ -15,7 +15,7 @@ pub fn open(n: usize, used: usize, rows: &[u64], list: &[u64], background: &[u64
         n,
         rows: used,
         rules: 0,
-        current: implication::closure_of(background, list, 0, 0),
+        current: closures::closure_of(background, list, 0, 0),
     };
     let verdict = session_checks::check_session(session, rows, list, background, 0, 0);
     match verdict {

@@ -7,7 +7,7 @@ use Rattle.theory.specs.Implications.{Implication}
 use Rattle.implication.specs.Closure.{implication}
 use Rattle.machine.specs.Checks.{State}
 use Rattle.machine.specs.Machine.{follow, refute, perform}
-use Rattle.machine.specs.ShownResults.Laws.{never-said-both}
+use Rattle.demands.specs.ShownResults.Laws.{never-said-both}
 use Rattle.machine.specs.Calls.{stateOf}
 use Rattle.session.specs.declared.Session.{Session}
 use Rattle.session_queries.specs.Answers.{followingAnswer, refutingAnswer}

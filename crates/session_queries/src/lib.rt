@@ -69,7 +69,7 @@ pub fn refuted(
     if let size_checks::Verdict::Refused(refusal) = verdict {
         return Refuting::Refused(refusal);
     }
-    let row = context::first_refuting(
+    let row = refuting_rows::first_refuting(
         rows,
         used,
         background,

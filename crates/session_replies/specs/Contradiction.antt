@@ -9,9 +9,9 @@ use Prim.Native.Nat.{ℕ}
 use Rattle.context.specs.Objects.{Object, object}
 use Rattle.machine.specs.Checks.{State, question}
 use Rattle.machine.specs.Machine.{Call, accept, reject, file, fill, refused, perform}
-use Rattle.machine.specs.Replies.{agreed, offered}
-use Rattle.machine.specs.Demand2.{Refused11, Contradictory, ContradictoryFilled, YesUpTo11, NoUpTo11, FilingUpTo11, FillUpTo11}
-use Rattle.machine.specs.Demand2.Theorem.{demand-2}
+use Rattle.demands.specs.Replies.{agreed, offered}
+use Rattle.demands.specs.Demand2.{Refused11, Contradictory, ContradictoryFilled, YesUpTo11, NoUpTo11, FilingUpTo11, FillUpTo11}
+use Rattle.demands.specs.Demand2.Theorem.{demand-2}
 use Rattle.machine.specs.Calls.{stateOf}
 use Rattle.session_replies.specs.Answers.{replyAnswer}
 use Rattle.session.specs.declared.Session.{Session}

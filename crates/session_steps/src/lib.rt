@@ -50,7 +50,7 @@ pub fn make_step(
                 n: session.n,
                 rows: session.rows,
                 rules: session.rules,
-                current: next_set::next_of(
+                current: closed_sets::next_of(
                     background,
                     list,
                     session.rules,

@@ -25,7 +25,7 @@ pub fn accept(
     };
     list[rules * 2] = question.premise;
     list[rules * 2 + 1] = question.conclusion;
-    let next = next_set::next_of(background, list, rules + 1, n, current);
+    let next = closed_sets::next_of(background, list, rules + 1, n, current);
     session_replies::Replied {
         answer: session_replies::Reply::Taken,
         session: session::Session {

@@ -33,15 +33,15 @@ pub fn find_standing(
     if let size_checks::Verdict::Refused(refusal) = verdict {
         return Standing::Refused(refusal);
     }
-    if current == attribute_set::full_set(n) {
+    if current == set_words::full_set(n) {
         return Standing::Full;
     }
-    let x = reach::reach_of(n, rows, session.rows, background, list, rules, current);
+    let x = row_reach::reach_of(n, rows, session.rows, background, list, rules, current);
     if x == current {
         return Standing::Tight;
     }
     Standing::Open(Question {
         premise: current,
-        conclusion: attribute_set::difference(x, current),
+        conclusion: set_words::difference(x, current),
     })
 }

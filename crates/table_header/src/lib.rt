@@ -25,7 +25,7 @@ fn count_at(file: &[u8], at: usize) -> usize
     requires { ⌜ at ≤ length (now file) ⌝ }
     ensures { λ r. ⌜ r ≡ countOf (bytesAt (now (file .entry)) at) ⌝ }
 {
-    let line = table_lines::line_at(file, at);
+    let line = line_ends::line_at(file, at);
     let end = at + line.size;
     table_counts::count_of(&file[at..end])
 }
@@ -34,15 +34,15 @@ fn count_at(file: &[u8], at: usize) -> usize
 pub fn object_count(file: &[u8]) -> usize
     ensures { λ r. ⌜ r ≡ objectCount (now (file .entry)) ⌝ }
 {
-    let title_at = table_lines::next_at(file, 0);
-    count_at(file, table_lines::next_at(file, title_at))
+    let title_at = line_ends::next_at(file, 0);
+    count_at(file, line_ends::next_at(file, title_at))
 }
 
 // The count of attributes, in the fourth line.
 pub fn attribute_count(file: &[u8]) -> usize
     ensures { λ r. ⌜ r ≡ attributeCount (now (file .entry)) ⌝ }
 {
-    let title_at = table_lines::next_at(file, 0);
-    let objects_at = table_lines::next_at(file, title_at);
-    count_at(file, table_lines::next_at(file, objects_at))
+    let title_at = line_ends::next_at(file, 0);
+    let objects_at = line_ends::next_at(file, title_at);
+    count_at(file, line_ends::next_at(file, objects_at))
 }

@@ -94,8 +94,8 @@ pub fn hold(
     let mut table = [0u64; session::Session::ROWS * 2];
     let mut rows = [0u64; session::Session::ROWS * 2];
     let mut list = [0u64; session::Session::RULES * 2];
-    let row_words = implication::smaller(row_places, session::Session::ROWS) * 2;
-    let list_words = implication::smaller(rule_places, session::Session::RULES) * 2;
+    let row_words = closures::smaller(row_places, session::Session::ROWS) * 2;
+    let list_words = closures::smaller(rule_places, session::Session::RULES) * 2;
     let before = handed_output::Handed {
         bytes: 0,
         whole: true,

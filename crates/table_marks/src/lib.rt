@@ -28,7 +28,7 @@ fn read_rows(part: &[u8], count: usize, n: usize, rows: &mut [u64])
         let row = table_rows::row_of(&part[at..end]);
         rows[i * 2] = row.yes;
         rows[i * 2 + 1] = row.no;
-        at = table_lines::next_at(part, end);
+        at = line_ends::next_at(part, end);
         i += 1;
     }
 }

@@ -17,7 +17,7 @@ pub fn reply(
     ensures { λ r. ⌜ Replies objects table interview rows list conclusion out at r ⌝ }
 {
     let place = written_marks::first_refuting(table, objects, interview.current, conclusion);
-    let whole = implication::smaller(objects, table.len() / 2);
+    let whole = closures::smaller(objects, table.len() / 2);
     if place < whole {
         let yes = table[place * 2];
         let no = table[place * 2 + 1];

@@ -30,7 +30,7 @@ fn put_row(out: &mut [u8], at: usize, n: usize, yes: u64, no: u64) -> usize
 pub fn put_rows(out: &mut [u8], at: usize, n: usize, rows: &[u64], used: usize) -> usize
     ensures { λ r. ⌜ Puts out at r (closed (markLines n (objectsOf (whole used (now (rows .entry))) (now (rows .entry))))) ⌝ }
 {
-    let count = implication::smaller(used, rows.len() / 2);
+    let count = closures::smaller(used, rows.len() / 2);
     let mut to = at;
     let mut i = 0;
     while i < count {

@@ -31,7 +31,7 @@ fn rest_of(file: &[u8], at: usize) -> Walk
 {
     let mut i = at;
     while i < file.len() {
-        let line = table_lines::line_at(file, i);
+        let line = line_ends::line_at(file, i);
         if line.size != 0 {
             return Walk::Failed(session::refuse(28, i));
         }

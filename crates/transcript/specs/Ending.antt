@@ -11,7 +11,7 @@ use Rattle.theory.specs.Implications.{Implication}
 use Rattle.implication.specs.Closure.{follows}
 use Rattle.context.specs.Objects.{Object}
 use Rattle.context.specs.Tables.{AgreesImplication}
-use Rattle.machine.specs.Demand3.{OverM}
+use Rattle.demands.specs.Demand3.{OverM}
 use Rattle.output_lines.specs.Lines.{yesLine, noLine, listLines}
 use Rattle.closing_lines.specs.Closing.{endLine, refusalLine}
 use Rattle.transcript.specs.Core.{noPlace}

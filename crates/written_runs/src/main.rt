@@ -29,12 +29,12 @@ fn rewrite(file: &[u8], out: &mut [u8]) -> Written {
         }
     };
     let at = layout.object_names;
-    table_writing::write_table(layout.attributes, layout.objects, &rows, &file[at..], out)
+    table_writer::write_table(layout.attributes, layout.objects, &rows, &file[at..], out)
 }
 
 // So many bytes, or all where there are fewer.
 fn first(bytes: &[u8], size: usize) -> &[u8] {
-    let end = implication::smaller(size, bytes.len());
+    let end = closures::smaller(size, bytes.len());
     &bytes[..end]
 }
 

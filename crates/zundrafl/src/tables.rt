@@ -65,7 +65,7 @@ pub extern "C" fn zundrafl_object_name(
 )
     ensures { λ _. ⌜ now (answer .exit) ≡ codeOfSpan (objectSpan (now (file .entry)) (now (layout .entry)) number) ⌝ }
 {
-    *answer = coded_tables::object_name(*layout, file, number);
+    *answer = coded_names::object_name(*layout, file, number);
 }
 
 // Where the name of an attribute stands, as for objects.
@@ -78,7 +78,7 @@ pub extern "C" fn zundrafl_attribute_name(
 )
     ensures { λ _. ⌜ now (answer .exit) ≡ codeOfSpan (attributeSpan (now (file .entry)) (now (layout .entry)) number) ⌝ }
 {
-    *answer = coded_tables::attribute_name(*layout, file, number);
+    *answer = coded_names::attribute_name(*layout, file, number);
 }
 
 // Writes n attributes, the rows in use of the row words, and the names lent as lines, as a table file into the lent output.

@@ -1,5 +1,5 @@
 -- Fillings computed: marks added, known marks offered again, marks that reverse a known one, and which row of a list becomes another.
-use mathlib.Core.Path.{_≡_, refl}
+use mathlib.Core.Path.{_≡_}
 use mathlib.Core.Bool.{true, false}
 use mathlib.Core.List.{[], _∷_}
 use Rattle.attribute_set.specs.Sets.{meets}
@@ -22,14 +22,4 @@ pub record Cases : Type 0 where
 
 pub cases : Cases
 unfolding meets reverses filledAt
-cases = record {
-  adds = refl;
-  again = refl;
-  yes-to-no = refl;
-  no-to-yes = refl;
-  same = refl;
-  new = refl;
-  second = refl;
-  first = refl;
-  absent = refl;
-}
+cases = search

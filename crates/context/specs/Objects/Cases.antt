@@ -1,5 +1,5 @@
 -- Refutation in cases that a wrong one gets wrong, computed. The set {0, 2} is the word 5, and so on.
-use mathlib.Core.Path.{_≡_, refl}
+use mathlib.Core.Path.{_≡_}
 use mathlib.Core.Bool.{true, false}
 use mathlib.Core.List.{[], _∷_}
 use Rattle.attribute_set.specs.Sets.{inside, meets, full}
@@ -33,18 +33,4 @@ pub record Cases : Type 0 where
 
 pub cases : Cases
 unfolding inside meets full passing fire pass close closure lowest has excludes lacks refutes firstRefuting
-cases = record {
-  some = refl;
-  unknown = refl;
-  premise = refl;
-  first = refl;
-  last = refl;
-  none = refl;
-  had = refl;
-  lacked = refl;
-  lacked-with-a-yes = refl;
-  by-what-it-lacks = refl;
-  by-what-it-has = refl;
-  of-no-marks = refl;
-  contradicting = refl;
-}
+cases = search

@@ -1,6 +1,6 @@
 -- The set on small tables, computed: "exceeds" is strict, unknown is not yes, a premise that no row has lists nothing, and no property of
 -- the premise is listed.
-use mathlib.Core.Path.{_≡_, refl}
+use mathlib.Core.Path.{_≡_}
 use mathlib.Core.List.{List, [], _∷_}
 use Rattle.attribute_set.specs.Sets.{inside, without}
 use Rattle.attribute_set.specs.Passing.{passing}
@@ -39,19 +39,4 @@ pub record Cases : Type 0 where
 
 pub cases : Cases
 unfolding nearlyAlways passing exceeds having inside without
-cases = record {
-  two = refl;
-  one = refl;
-  one-two = refl;
-  zero = refl;
-  zero-two = refl;
-  zero-one = refl;
-  exactly = refl;
-  just-above = refl;
-  unknown = refl;
-  known = refl;
-  some = refl;
-  every = refl;
-  empty = refl;
-  fewer = refl;
-}
+cases = search

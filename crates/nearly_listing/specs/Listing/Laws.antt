@@ -22,7 +22,7 @@ use Rattle.context.specs.Places.{lowest, anywhere}
 use Rattle.context.specs.Objects.{objectsOf, markedTwice}
 use Rattle.machine.specs.Checks.{Check, firstFailing, strange}
 use Rattle.machine.specs.Checks.Laws.{passed, passed-append, none-failing, failing-append, failing-first}
-use Rattle.machine.specs.Facts.Refused.{failing-check}
+use Rattle.demands.specs.Facts.Refused.{failing-check}
 use Rattle.session_checks.specs.Checked.{firstOf}
 use Rattle.row_checks.specs.Rows.{rowChecksWith}
 use Rattle.row_checks.specs.Rows.Laws.{rows-fit-with, right-rows-with}

@@ -6,7 +6,7 @@ use mathlib.Core.List.{List}
 use Prim.Native.Nat.{ℕ, _≤_, _<_}
 use Rattle.session.specs.declared.Refusal.{Refusal}
 use Rattle.context.specs.Objects.{objectsOf, markedTwice}
-use Rattle.machine.specs.Facts.Refused.{Lowest}
+use Rattle.demands.specs.Facts.Refused.{Lowest}
 
 pub record RightPlace (used : ℕ) (words : List ℕ) (r : Refusal) : Type 0 where
   pub number : ((0 < r .number) × (r .number ≤ 5)) ⊎ (r .number ≡ 31)

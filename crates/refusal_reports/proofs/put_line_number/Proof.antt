@@ -9,7 +9,8 @@ returns : tie.Need-returns
 unfolding bytes
 returns c =
     let third = c .before .before in
-    let second = third .before .before .before .before .before in
+    let begun = third .before .before .before in
+    let second = begun .before .before in
     let first = second .before .before .before .before in
     text-on _ _ _ (first .put-bytes .ensures) (text-on _ _ _ (second .put-number .ensures) (third .put-bytes2 .ensures))
 

@@ -30,7 +30,7 @@ use Rattle.context.specs.Objects.{Object, object, objectsOf, markedTwice, contr
 use Rattle.context.specs.Objects.Laws.{marked-apart}
 use Rattle.machine.specs.Checks.{Check, check, firstFailing, strange, strangeObject, strangeImplication, sessionChecks, outsideM}
 use Rattle.machine.specs.Checks.Laws.{InM, or-false, passed, failing-here, failing-later, familiar-object}
-use Rattle.machine.specs.Facts.Refused.{lowest-row}
+use Rattle.demands.specs.Facts.Refused.{lowest-row}
 use Rattle.machine.specs.Calls.{stateOf}
 use Rattle.row_checks.specs.Rows.{rowChecks, rowChecksWith}
 use Rattle.row_checks.specs.Rows.Places.{RightRow}

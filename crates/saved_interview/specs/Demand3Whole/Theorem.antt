@@ -14,10 +14,10 @@ use Rattle.context.specs.Objects.{Object, object, objectsOf}
 use Rattle.context.specs.Filling.{objectAt}
 use Rattle.machine.specs.Checks.{Lent, State}
 use Rattle.machine.specs.Machine.{run}
-use Rattle.machine.specs.Replies.{Reply, offeredIn, filledBy, FillsOther, replies}
-use Rattle.machine.specs.Replies.Laws.{length-filled-by, unfilled}
-use Rattle.machine.specs.Demand3.{Finished, Unrefuted, AfterCalls}
-use Rattle.machine.specs.Demand3.Theorem.{demand-3}
+use Rattle.demands.specs.Replies.{Reply, offeredIn, filledBy, FillsOther, replies}
+use Rattle.demands.specs.Replies.Laws.{length-filled-by, unfilled}
+use Rattle.demands.specs.Demand3.{Finished, Unrefuted, AfterCalls}
+use Rattle.demands.specs.Demand3.Theorem.{demand-3}
 use Rattle.saved_interview.specs.Demand3Whole.{Interview, opening-state, end-state, script, rules, end-rows, end-list, Demand3Whole, SameListWhole}
 
 module _ {n : ℕ} {background : List ℕ} (i : Interview n background) where

@@ -11,9 +11,9 @@ use lib.ListN.{length, getD, take, drop, replicate, length-replicate}
 use Rattle.theory.specs.Implications.{Implication}
 use Rattle.attribute_set.specs.Sets.Laws.{lt-or-le}
 use Rattle.machine.specs.Machine.{Call, follow, refute, perform, run}
-use Rattle.machine.specs.ShownResults.{SaysFollows, SaysRefuted, ShownResults, AnsweredOnce}
-use Rattle.machine.specs.ShownResults.Laws.{run-append}
-use Rattle.machine.specs.ShownResults.Theorem.{request-8}
+use Rattle.demands.specs.ShownResults.{SaysFollows, SaysRefuted, ShownResults, AnsweredOnce}
+use Rattle.demands.specs.ShownResults.Laws.{run-append}
+use Rattle.demands.specs.ShownResults.Theorem.{request-8}
 use Rattle.answer_words.specs.declared.Answer.{Answer as Coded}
 use Rattle.answer_words.specs.Codes.{coded, codeOf, answerIn}
 use Rattle.answer_words.specs.Codes.Laws.{words-tell}

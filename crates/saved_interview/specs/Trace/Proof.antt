@@ -11,8 +11,8 @@ use Rattle.implication.specs.Closure.{implication}
 use Rattle.context.specs.Objects.{object, objectsOf}
 use Rattle.machine.specs.Checks.{State}
 use Rattle.machine.specs.Machine.{Call, step, accept, reject, follow, refute, test, file, fill, perform, run}
-use Rattle.machine.specs.Facts.{Fine}
-use Rattle.machine.specs.Facts.Kept.{never-bad}
+use Rattle.demands.specs.Facts.{Fine}
+use Rattle.demands.specs.Facts.Kept.{never-bad}
 use Rattle.answer_words.specs.Codes.{coded}
 use Rattle.logged_calls.specs.Kinds.{callOf}
 use Rattle.call_logs.specs.Replay.{callsOf, replayCode, replayAfter, known, answersOf, logOf}

@@ -18,7 +18,7 @@ use Rattle.session_late_marks.proofs.fill_row.Statement.{statement}
 use Rattle.session_late_marks.proofs.fill_row.Tie as tie
 
 abbrev start : tie.After-check-fill → tie.Start
-start c = c .before .before .before .before .before
+start c = let lent = c .before .before .before in lent .before .before
 
 abbrev state : tie.After-check-fill → State
 state c = let a = start c .args in stateOf (a .session) (a .rows .now) (a .list .now) (a .background .now)

@@ -4,7 +4,7 @@ use borrow.Author.Needs.{needs}
 use Rattle.context.specs.Objects.{Object, object}
 use Rattle.machine.specs.Checks.{State}
 use Rattle.machine.specs.Machine.{test, perform}
-use Rattle.machine.specs.InTurn.Theorem.{no-refused, no-filed}
+use Rattle.demands.specs.InTurn.Theorem.{no-refused, no-filed}
 use Rattle.machine.specs.Calls.{stateOf}
 use Rattle.machine.specs.Calls.Laws.{as-call}
 use Rattle.session_test.specs.declared.Testing.{Testing}

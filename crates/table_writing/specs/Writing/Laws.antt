@@ -1,5 +1,5 @@
--- What is answered, computed (`cases`), and for every table: the first check that fails decides (`rows-refused`, `name-refused`,
--- `long-refused`), and where none does the answer is the number of bytes (`all-written`). Where the check of the names passes,
+-- What is answered and what the output holds then, computed (`cases`, `lengths`, `outputs`), and for every table: the first check that fails
+-- decides (`rows-refused`, `name-refused`, `long-refused`), and where none does the answer is the number of bytes (`all-written`). Where the check of the names passes,
 -- there are as many as are needed and they are small (`names-fine`, `names-fit`), so that the number of bytes is known before the first one
 -- is written. Bytes are answered just where every check passes (`bytes-checked`).
 use mathlib.Core.Path.{_≡_, refl, sym, ap, _∙_}
@@ -40,7 +40,7 @@ use Rattle.machine.specs.Checks.Laws.{or-false, passed, failing-nothing, failin
 use Rattle.row_checks.specs.Rows.{rowChecks}
 use Rattle.table_text.specs.Table.{textOf}
 use Rattle.table_writing.specs.declared.Written.the-variants.{Bytes, Refused}
-use Rattle.table_writing.specs.Writing.{namesWalk, isFailed, isLong, writeChecks, RowsPass, NamesPass, writtenBy, writing}
+use Rattle.table_writing.specs.Writing.{namesWalk, isFailed, isLong, writeChecks, RowsPass, NamesPass, writtenBy, writing, outputAfter}
 
 -- computed: no rows and one property, and what refuses it: an output that is too short, no name, a name too few, an empty one; and a row
 -- that is refused before all of that
@@ -56,6 +56,11 @@ cases = (refl, refl, refl, refl, refl, refl)
 -- computed: the longest text of all, and one byte more; the longest that an output has room for, and one byte more
 lengths : (isLong 65536 65535 ≡ false) × (isLong 65536 65536 ≡ true) × (isLong 9 9 ≡ false) × (isLong 9 10 ≡ true)
 lengths = (refl, refl, refl, refl)
+
+-- computed: a text stands at the start of the output, with the bytes behind it as they were; a refusal leaves every byte
+outputs : (outputAfter (Bytes 2) (66 ∷ 10 ∷ []) (1 ∷ 2 ∷ 3 ∷ []) ≡ 66 ∷ 10 ∷ 3 ∷ [])
+    × (outputAfter (Refused (refusal 30 0)) (66 ∷ 10 ∷ []) (1 ∷ 2 ∷ 3 ∷ []) ≡ 1 ∷ 2 ∷ 3 ∷ [])
+outputs = (refl, refl)
 
 -- which texts are long
 module _ (room size : ℕ) where

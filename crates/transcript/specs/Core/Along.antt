@@ -27,7 +27,7 @@ use Rattle.session.specs.Limits.{badLength, mostAttributes, mostObjects, mostIm
 use Rattle.written_marks.specs.Written.Laws.{Settled, refutes-written, reach-written}
 use Rattle.machine.specs.Checks.{State, force, reachOf, question, strange, strangeObject, strangeImplication, outsideM, firstFailing, sessionChecks}
 use Rattle.machine.specs.Checks.Laws.{InM, Passed, none-failing, or-false}
-use Rattle.machine.specs.Demand3.Invariant.{Reached, current-in}
+use Rattle.demands.specs.Demand3.Invariant.{Reached, current-in}
 use Rattle.written_machine.specs.Reading.{writtenReach, writtenQuestion}
 
 -- two different rows

@@ -28,8 +28,8 @@ use Rattle.machine.specs.Checks.{State, check, force, reachOf, question, withQu
 use Rattle.machine.specs.Checks.Laws.{Stands, passed, failing-nothing, failing-here, failing-later, failing-append}
 use Rattle.machine.specs.Machine.{Call, step, accept, reject, taken, turn, afterMove, afterYes, afterFiling, performed, checksOf, perform}
 use Rattle.machine.specs.Machine.Laws.{perform-refused, perform-accepted, step-cases}
-use Rattle.machine.specs.Facts.Laws.{standing-question}
-use Rattle.machine.specs.Demand3.Invariant.{with-over}
+use Rattle.demands.specs.Facts.Laws.{standing-question}
+use Rattle.demands.specs.Demand3.Invariant.{with-over}
 use Rattle.output_lines.specs.Lines.{yesLine, noLine, listLines}
 use Rattle.closing_lines.specs.Closing.{endLine, refusalLine}
 use Rattle.transcript.specs.Output.{Beat, more, last, replied, answered, stepped, beat}

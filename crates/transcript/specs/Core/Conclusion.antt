@@ -20,8 +20,8 @@ use Rattle.context.specs.Tables.Laws.{follows-tables}
 use Rattle.machine.specs.Checks.{Lent, State, force, question}
 use Rattle.machine.specs.Machine.{step, finished, performed, checksOf, opening, opened, afterFiling, afterYes}
 use Rattle.machine.specs.Machine.Laws.{perform-accepted, step-cases, opened-is}
-use Rattle.machine.specs.Demand3.{OverM, Finished}
-use Rattle.machine.specs.Demand3.Theorem.{decided, shortest}
+use Rattle.demands.specs.Demand3.{OverM, Finished}
+use Rattle.demands.specs.Demand3.Theorem.{decided, shortest}
 use Rattle.output_lines.specs.Lines.{yesLine, noLine, listLines}
 use Rattle.closing_lines.specs.Closing.{endLine, refusalLine}
 use Rattle.transcript.specs.Output.{Beat, more, last, beat, beats, enough}

@@ -15,7 +15,7 @@ use Rattle.machine.specs.Checks.{Lent, State, force, reachOf, question, withQue
 use Rattle.machine.specs.Checks.Laws.{Stands, passed}
 use Rattle.machine.specs.Machine.{afterMove, afterYes, afterFiling, opening, opened}
 use Rattle.machine.specs.Machine.Laws.{step-cases, opened-is}
-use Rattle.machine.specs.Demand3.Invariant.{Reached, with-over, moved-reached, yes-reached, filed-reached, opened-reached}
+use Rattle.demands.specs.Demand3.Invariant.{Reached, with-over, moved-reached, yes-reached, filed-reached, opened-reached}
 use Rattle.output_lines.specs.Lines.{yesLine, noLine}
 use Rattle.closing_lines.specs.Closing.{refusalLine}
 use Rattle.transcript.specs.Output.{Beat, more, last}

@@ -17,8 +17,8 @@ use Rattle.machine.specs.Checks.{Lent, State, force, question, withQuestion}
 use Rattle.machine.specs.Checks.Laws.{no-both}
 use Rattle.machine.specs.Machine.{step, accept, reject, Turn, afterMove, afterYes, afterFiling, performStep, performed, checksOf, perform, opened, opening}
 use Rattle.machine.specs.Machine.Laws.{perform-cases, perform-accepted, step-cases}
-use Rattle.machine.specs.Facts.Laws.{checks-filing}
-use Rattle.machine.specs.Demand3.Invariant.{Reached, perform-reached, opened-reached}
+use Rattle.demands.specs.Facts.Laws.{checks-filing}
+use Rattle.demands.specs.Demand3.Invariant.{Reached, perform-reached, opened-reached}
 use Rattle.transcript.specs.Output.{Beat, more, last, replied, answered, stepped, beat, beats, lastWithin, enough}
 use Rattle.output_lines.specs.Lines.{yesLine, noLine}
 

@@ -12,7 +12,7 @@ use Rattle.theory.specs.Lists.Laws.{all-nil, all-cons, all-append}
 use Rattle.session.specs.declared.Refusal.{Refusal}
 use Rattle.session.specs.Refusals.{refusal}
 use Rattle.machine.specs.Checks.{Check, firstFailing}
-use Rattle.machine.specs.Facts.Refused.{failing-check}
+use Rattle.demands.specs.Facts.Refused.{failing-check}
 use Rattle.line_walk.specs.declared.Walk.{Walk}
 use Rattle.line_walk.specs.declared.Walk.the-variants.{Failed, At}
 use Rattle.table_walk.specs.Walk.{placeOf}
