@@ -1,6 +1,5 @@
 // The tests behind the checks of an offered row: of its marks alone (9), against known marks (33), and against the rules in force (11).
 ghost use mathlib.Core.Path.{_≡_};
-ghost use Rattle.implication.specs.Closure.{implication};
 ghost use Rattle.context.specs.Objects.{object, contradicts};
 ghost use Rattle.context.specs.Filling.{reverses};
 ghost use Rattle.context.specs.Parts.{lentForce};
