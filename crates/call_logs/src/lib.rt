@@ -2,7 +2,7 @@
 ghost use mathlib.Core.Path.{_≡_};
 ghost use Prim.Native.Nat.{_+_, _*_, _≤_};
 ghost use lib.ListN.{length};
-ghost use Rattle.call_logs.specs.Replay.{stored, codeOfLog, Replays, ReplaysCoded};
+ghost use Rattle.call_logs.specs.Replay.{stored, Replays};
 
 pub enum Log {
     Replayed,
@@ -66,35 +66,5 @@ pub fn replay(
     Replayed {
         log: Log::Replayed,
         session: current,
-    }
-}
-
-fn answer_of_log(log: Log) -> answer_words::Answer
-    ensures { λ r. ⌜ r ≡ codeOfLog log ⌝ }
-{
-    match log {
-        Log::Replayed => answer_words::in_words(answer_words::Answer::TAKEN, 0, 0),
-        Log::Short => answer_words::in_words(answer_words::Answer::NO_ROOM, 0, 0),
-    }
-}
-
-// The same, with its answer in three words.
-pub fn replay_coded(
-    session: session::Session,
-    rows: &mut [u64],
-    list: &mut [u64],
-    background: &[u64],
-    calls: &[u64],
-    answers: &mut [u64],
-) -> coded_calls::Turn
-    ensures { λ r. ⌜ ReplaysCoded session rows list background calls answers (r .answer) (r .session) (r .changed) ⌝ }
-{
-    let replayed = replay(session, rows, list, background, calls, answers);
-    let log = replayed.log;
-    let after = replayed.session;
-    coded_calls::Turn {
-        answer: answer_of_log(log),
-        session: after,
-        changed: session::differ(session, after),
     }
 }

@@ -16,14 +16,12 @@ fn hold_few(file: &[u8]) {
 }
 
 fn hold_path(path: &[u8]) {
-    let fd = os::open_read(path);
-    if fd < 0 {
-        os::fail(path);
+    let mut file = [0u8; FILE_BYTES];
+    let named = named_files::read_path(path, &mut file);
+    let size = named.size;
+    if !named.opened {
         return;
     }
-    let mut file = [0u8; FILE_BYTES];
-    let size = io::read_full(fd, &mut file);
-    libc::close(fd);
     io::write_all(STDOUT_FILENO, path);
     io::write_all(STDOUT_FILENO, b"\n");
     hold(&file[..size]);

@@ -28,7 +28,7 @@ pub fn replay_one(
     a: u64,
     b: u64,
     c: u64,
-) -> coded_calls::Turn
+) -> coded_opening::Turn
     ensures { λ r. ⌜ ReplaysOne (callOf kind a b c) session rows list background (r .answer) (r .session) ⌝ }
 {
     if kind == STEP {
@@ -41,22 +41,22 @@ pub fn replay_one(
         return coded_calls::reject(session, rows, list, background, a, b);
     }
     if kind == FOLLOWS {
-        return coded_calls::Turn {
-            answer: coded_calls::follows(session, rows, list, background, a, b),
+        return coded_opening::Turn {
+            answer: coded_queries::follows(session, rows, list, background, a, b),
             session,
             changed: false,
         };
     }
     if kind == REFUTED {
-        return coded_calls::Turn {
-            answer: coded_calls::refuted(session, rows, list, background, a, b),
+        return coded_opening::Turn {
+            answer: coded_queries::refuted(session, rows, list, background, a, b),
             session,
             changed: false,
         };
     }
     if kind == TEST {
-        return coded_calls::Turn {
-            answer: coded_calls::test_row(session, rows, list, background, a, b),
+        return coded_opening::Turn {
+            answer: coded_queries::test_row(session, rows, list, background, a, b),
             session,
             changed: false,
         };
@@ -65,13 +65,13 @@ pub fn replay_one(
         return coded_calls::file_row(session, rows, list, background, a, b);
     }
     if kind == FILL {
-        return coded_calls::Turn {
+        return coded_opening::Turn {
             answer: coded_calls::fill_row(session, rows, list, background, a as usize, b, c),
             session,
             changed: false,
         };
     }
-    coded_calls::Turn {
+    coded_opening::Turn {
         answer: answer_words::in_words(answer_words::Answer::UNKNOWN, 0, 0),
         session,
         changed: false,

@@ -6,16 +6,16 @@ fn turn_after(
     session: session::Session,
     log: call_logs::Log,
     after: session::Session,
-) -> coded_calls::Turn
+) -> coded_opening::Turn
     ensures { λ r. ⌜ TurnAfter session log after (r .answer) (r .session) (r .changed) ⌝ }
 {
     match log {
-        call_logs::Log::Replayed => coded_calls::Turn {
+        call_logs::Log::Replayed => coded_opening::Turn {
             answer: answer_words::in_words(answer_words::Answer::TAKEN, 0, 0),
             session: after,
             changed: true,
         },
-        call_logs::Log::Short => coded_calls::Turn {
+        call_logs::Log::Short => coded_opening::Turn {
             answer: answer_words::in_words(answer_words::Answer::NO_ROOM, 0, 0),
             session,
             changed: false,
@@ -34,14 +34,14 @@ pub fn open_and_replay(
     background: &[u64],
     calls: &[u64],
     answers: &mut [u64],
-) -> coded_calls::Turn
+) -> coded_opening::Turn
     ensures { λ r. ⌜ TakesUpTo n used session rows list background calls answers (r .answer) (r .session) (r .changed) ⌝ }
 {
     let opened = session_opening::open(n, used, rows, list, background);
     let start = match opened {
         session_opening::Opened::Open(start) => start,
         session_opening::Opened::Refused(refusal) => {
-            return coded_calls::Turn {
+            return coded_opening::Turn {
                 answer: answer_words::answer_of_refusal(refusal),
                 session,
                 changed: false,

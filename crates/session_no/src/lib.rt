@@ -20,5 +20,5 @@ pub fn reject(
     if let session_test::Testing::Refused(refusal) = tested {
         return session_replies::refused(session, refusal);
     }
-    session_filing::file_checked(session, rows, list, background, yes, no)
+    checked_filing::file_checked(session, rows, list, background, yes, no)
 }

@@ -84,31 +84,21 @@ fn show(file: &[u8]) {
     }
 }
 
-fn show_path(path: &[u8]) {
-    let fd = os::open_read(path);
-    if fd < 0 {
-        os::fail(path);
-        return;
-    }
+fn show_argument(number: usize) {
     let mut file = [0u8; table_layout::Layout::BYTES + 1];
-    let size = io::read_full(fd, &mut file);
-    libc::close(fd);
-    io::write_all(STDOUT_FILENO, path);
-    show(&file[..size]);
-    io::write_all(STDOUT_FILENO, b"\n");
-}
-
-fn show_arg(number: usize) {
-    let mut path = io::buffer();
-    let length = os::arg(number, &mut path);
-    show_path(&path[..length]);
+    let named = named_files::read_argument(number, &mut file);
+    let size = named.size;
+    if named.opened {
+        show(&file[..size]);
+        io::write_all(STDOUT_FILENO, b"\n");
+    }
 }
 
 fn main() {
     let count = os::arg_count();
     let mut i = 1;
     while i < count {
-        show_arg(i);
+        show_argument(i);
         i += 1;
     }
 }

@@ -3,8 +3,8 @@ use Rattle.session.proofs.Session as T
 use Rattle.session.proofs.Session.Laws as T′
 use Rattle.answer_words.proofs.Answer as N
 use Rattle.answer_words.proofs.Answer.Laws as N′
-use Rattle.coded_calls.proofs.Turn as S
-use Rattle.coded_calls.specs.declared.Turn.{Turn}
+use Rattle.coded_opening.proofs.Turn as S
+use Rattle.coded_opening.specs.declared.Turn.{Turn}
 use Rattle.table_layout.proofs.Layout as Y
 use Rattle.table_layout.proofs.Layout.Laws as Y′
 use Rattle.coded_tables.proofs.Found as F

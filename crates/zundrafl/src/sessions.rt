@@ -2,7 +2,7 @@
 ghost use Rattle.implication.specs.Closure.{implication};
 ghost use Rattle.context.specs.Objects.{object};
 ghost use Rattle.machine.specs.Machine.{step as stepping, accept as accepting, reject as rejecting, follow, refute, test, file, fill};
-ghost use Rattle.coded_calls.specs.Openings.{AnswersOn, OpensOn};
+ghost use Rattle.coded_opening.specs.Openings.{AnswersOn, OpensOn};
 ghost use Rattle.call_logs.specs.Replay.{ReplaysOn};
 ghost use Rattle.saved_interview.specs.TakingUp.{TakesUpOn};
 
@@ -20,7 +20,7 @@ pub extern "C" fn zundrafl_open_session(
     ensures { λ _. ⌜ OpensOn n used session rows list background answer ⌝ }
 {
     let held = *session;
-    let turn = coded_calls::open(held, n, used, rows, list, background);
+    let turn = coded_opening::open(held, n, used, rows, list, background);
     if turn.changed {
         *session = turn.session;
     }
@@ -99,7 +99,7 @@ pub extern "C" fn zundrafl_follows(
 )
     ensures { λ _. ⌜ AnswersOn (follow (implication premise conclusion)) session rows list background answer ⌝ }
 {
-    *answer = coded_calls::follows(*session, rows, list, background, premise, conclusion);
+    *answer = coded_queries::follows(*session, rows, list, background, premise, conclusion);
 }
 
 // Whether a row refutes an implication, with the first such row.
@@ -115,7 +115,7 @@ pub extern "C" fn zundrafl_refuted(
 )
     ensures { λ _. ⌜ AnswersOn (refute (implication premise conclusion)) session rows list background answer ⌝ }
 {
-    *answer = coded_calls::refuted(*session, rows, list, background, premise, conclusion);
+    *answer = coded_queries::refuted(*session, rows, list, background, premise, conclusion);
 }
 
 // 02's test: whether the offered row refutes the standing question.
@@ -131,7 +131,7 @@ pub extern "C" fn zundrafl_test_row(
 )
     ensures { λ _. ⌜ AnswersOn (test (object yes no)) session rows list background answer ⌝ }
 {
-    *answer = coded_calls::test_row(*session, rows, list, background, yes, no);
+    *answer = coded_queries::test_row(*session, rows, list, background, yes, no);
 }
 
 // 02's filing: the offered row becomes the next row.
@@ -186,7 +186,7 @@ pub extern "C" fn zundrafl_replay(
     ensures { λ _. ⌜ ReplaysOn session rows list background calls answers answer ⌝ }
 {
     let held = *session;
-    let turn = call_logs::replay_coded(held, rows, list, background, calls, answers);
+    let turn = coded_logs::replay_coded(held, rows, list, background, calls, answers);
     if turn.changed {
         *session = turn.session;
     }

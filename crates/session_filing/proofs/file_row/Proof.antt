@@ -14,7 +14,7 @@ use Rattle.machine.specs.Calls.{stateOf}
 use Rattle.size_checks.specs.declared.Verdict.{Verdict}
 use Rattle.size_checks.specs.Verdicts.{verdictOf}
 use Rattle.session_replies.specs.Answers.Laws.{refused-turns}
-use Rattle.session_filing.specs.Checked.Laws.{checked-turns}
+use Rattle.checked_filing.specs.Checked.Laws.{checked-turns}
 use Rattle.session_filing.proofs.file_row.Statement.{statement}
 use Rattle.session_filing.proofs.file_row.Tie as tie
 

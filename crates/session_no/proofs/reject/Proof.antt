@@ -10,7 +10,7 @@ use Rattle.machine.specs.Calls.Laws.{as-call}
 use Rattle.session_test.specs.declared.Testing.{Testing}
 use Rattle.session_test.specs.Answers.{testingAnswer}
 use Rattle.session_replies.specs.Answers.Laws.{refused-turns}
-use Rattle.session_filing.specs.Checked.Laws.{checked-turns}
+use Rattle.checked_filing.specs.Checked.Laws.{checked-turns}
 use Rattle.session_no.proofs.reject.Statement.{statement}
 use Rattle.session_no.proofs.reject.Tie as tie
 

@@ -1,10 +1,10 @@
 -- The record is read, the coded call is made, and record and answer are stored, the record where it changed.
 use contract.Running.{tablesOf}
 use Rattle.walks.specs.Instance.{id⊢, fact-mono, givenOf, tables, tripleOf, entered, cited}
-use Rattle.coded_calls.specs.Openings.Laws.{opens-kept}
-use Rattle.coded_calls.proofs.«open» as core
-use Rattle.coded_calls.proofs.«open».Symbol as core-def
-use Rattle.coded_calls.proofs.«open».Met as core-thm
+use Rattle.coded_opening.specs.Openings.Laws.{opens-kept}
+use Rattle.coded_opening.proofs.«open» as core
+use Rattle.coded_opening.proofs.«open».Symbol as core-def
+use Rattle.coded_opening.proofs.«open».Met as core-thm
 use Rattle.walks_for_c.specs.Opening.{opens}
 use Rattle.zundrafl.proofs.Types.{session, answer, turn}
 use Rattle.zundrafl.proofs.sessions.zundrafl_open_session.Key.{name as #own}
@@ -20,5 +20,5 @@ zundrafl-open-session-spec 𝓤 H 𝓜 𝓖 𝓡 =
     (opens session answer turn 𝓤 H (𝓖 .A) (givenOf 𝓤 H 𝓜 𝓖) (f.clauses 𝓤 H (𝓖 .A) (𝓜 .mem) (𝓡 .run))
     (core.clauses 𝓤 H (𝓖 .A) (𝓜 .mem) (𝓡 .run)) core-def.name (tablesOf 𝓤 H 𝓜 (tables 𝓤 H 𝓜 𝓡 code.env))
     (cited 𝓤 H (tripleOf 𝓤 H (𝓖 .A) core.signature (core.spec 𝓤 H (𝓖 .A) (𝓜 .mem) (𝓡 .run))) 𝓜 𝓡 code.env core-def.name core-def.routine
-    code.calls-coded-calls·open (core-thm.met 𝓤 H 𝓜 𝓖 𝓡))
+    code.calls-coded-opening·open (core-thm.met 𝓤 H 𝓜 𝓖 𝓡))
     (λ κs a. tt) (λ κs a. id⊢ 𝓤 _) (λ κs a g r ws. fact-mono 𝓤 _ _ opens-kept))
