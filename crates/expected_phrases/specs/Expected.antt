@@ -39,6 +39,6 @@ marksText file number = elim (eqb number 27) [ true ↦ numberText (attributeCou
 abbrev pub mistakeText : List ℕ → ℕ → List ℕ
 mistakeText file number = elim (eqb number 22) [ true ↦ bytes "; " ++ mistakePhrase (looksLike file) | false ↦ [] ]
 
--- all three
+-- the number of marks, the phrase, the mistake
 abbrev pub expectedText : List ℕ → ℕ → List ℕ
 expectedText file number = marksText file number ++ (phrase number ++ mistakeText file number)

@@ -1,5 +1,6 @@
 // The interview of the complete table on standard input (01: the program). Beside it, on standard error: why a file is refused.
 use libc::STDERR_FILENO;
+use libc::STDIN_FILENO;
 use standard_streams::REPORT_BYTES;
 use table_interview::OUTPUT_BYTES;
 use table_layout::FILE_BYTES;
@@ -11,15 +12,34 @@ fn say_sentence(number: u64) {
     standard_streams::say(&report, size);
 }
 
-// The interview of the bytes that were read, and words for a person where there is none or it ran out of places.
-fn explore(file: &[u8; FILE_BYTES], size: usize) {
+// How the program is used, where a person calls it with no file.
+fn say_usage() {
+    io::write_all(
+        STDERR_FILENO,
+        b"usage: explore < TABLE
+Interviews a complete table in Burmeister's layout, in place of an expert.
+",
+    );
+}
+
+fn main() {
+    if libc::isatty(STDIN_FILENO) == 1 {
+        say_usage();
+        return;
+    }
+    let mut file = [0u8; FILE_BYTES];
+    let input = standard_streams::read_input(STDIN_FILENO, &mut file);
+    if input.failed {
+        io::write_all(STDERR_FILENO, b"standard input cannot be read\n");
+        return;
+    }
     let mut out = [0u8; OUTPUT_BYTES];
-    let told = explore_answers::answer(file, size, &mut out);
+    let told = explore_answers::answer(&file, input.size, &mut out);
     if !told.handed.whole {
         io::write_all(STDERR_FILENO, b"standard output cannot be written\n");
     }
     let mut report = [0u8; REPORT_BYTES];
-    let explained = explore_answers::explain(file, size, &mut report);
+    let explained = explore_answers::explain(&file, input.size, &mut report);
     standard_streams::say(&report, explained);
     if explained != 0 {
         return;
@@ -27,18 +47,4 @@ fn explore(file: &[u8; FILE_BYTES], size: usize) {
     if explore_answers::ran_out(&out, told.end) {
         say_sentence(12);
     }
-}
-
-fn main() {
-    let mut file = [0u8; FILE_BYTES];
-    let input = standard_streams::read_standard_input(
-        b"usage: explore < TABLE
-Interviews a complete table in Burmeister's layout, in place of an expert.
-",
-        &mut file,
-    );
-    if input.failed {
-        return;
-    }
-    explore(&file, input.size);
 }

@@ -1,7 +1,6 @@
 // What the programs have in common: standard input read to a buffer, and words for a person on standard error.
 ghost use Rattle.io.specs.Counts.{Counts};
 use libc::STDERR_FILENO;
-use libc::STDIN_FILENO;
 
 // The bytes of a buffer with room for every explanation of a refused file; the longest has fewer than 260.
 pub const REPORT_BYTES: usize = 512;
@@ -32,26 +31,6 @@ pub fn read_input(fd: i32, file: &mut [u8]) -> Input
         size,
         failed: false,
     }
-}
-
-// Reads standard input for a program. On a terminal nothing is read, and standard error has how the program is used; it also says where a
-// read failed. Either counts as failed.
-pub fn read_standard_input(usage: &[u8], file: &mut [u8]) -> Input
-    ensures { λ r. ⌜ Counts (r .size) (now (file .exit)) ⌝ }
-{
-    if libc::isatty(STDIN_FILENO) == 1 {
-        io::write_all(STDERR_FILENO, usage);
-        return Input {
-            size: 0,
-            failed: true,
-        };
-    }
-    let input = read_input(STDIN_FILENO, file);
-    let failed = input.failed;
-    if failed {
-        io::write_all(STDERR_FILENO, b"standard input cannot be read\n");
-    }
-    input
 }
 
 // Writes what stands at the start of a report to standard error.
