@@ -32,7 +32,8 @@ RewritesFrom file out x out′ = RewritesAs (openedOf file) file out x out′
 abbrev pub Rewrites : Buffer → Buffer → Written → Type 0
 Rewrites file out x = RewritesFrom (now (file .entry)) (now (out .entry)) x (now (out .exit))
 
--- of a file that was read: what is written of it settles, or it is refused with 30
+-- by what the file opens as: what is written of it settles, or it is refused with 30; or the reader's refusal, and every byte of the output
+-- is kept
 abbrev pub SettlesAs : Opened → List ℕ → List ℕ → Written → List ℕ → Type 0
 SettlesAs (Found l) file out x out′ = SettlesOr30 file l noRows (length file) out x out′
 SettlesAs (Unread r) file out x out′ = (x ≡ Refused r) × (out′ ≡ out)

@@ -1,13 +1,12 @@
 -- What is read of a file into the row words of a session is what the file opens as (`read-opened`), so that the answer to the two calls, the
 -- reader's and the writer's, is the one promised (`rewrites-refused`, `rewrites-found`).
-use mathlib.Core.Path.{_≡_, refl, sym, ap, subst, _∙_}
+use mathlib.Core.Path.{_≡_, sym, ap, subst, _∙_}
 use mathlib.Core.List.{List}
 use Prim.Native.Nat.{ℕ, _*_}
 use lib.ListN.{length, length-replicate}
 use Rattle.session.specs.Limits.{mostObjects}
 use Rattle.session.specs.declared.Refusal.{Refusal}
 use Rattle.table_layout.specs.declared.Layout.{Layout}
-use Rattle.table_layout.specs.declared.Opened.{Opened}
 use Rattle.table_layout.specs.declared.Opened.the-variants.{Found, Refused as Unread}
 use Rattle.table_layout.specs.Layout.{openedOf}
 use Rattle.table_layout.specs.Layout.Passed.{table-objects}

@@ -2,9 +2,9 @@
 -- (`same-again`): request 2/13, of the call that runs.
 use mathlib.Core.Path.{_≡_, refl, sym, ap, subst, _∙_}
 use mathlib.Core.Bool.{true, false, true≢false}
-use mathlib.Core.Logic.{_⊎_, inl, inr}
+use mathlib.Core.Logic.{inl, inr}
 use mathlib.Core.List.{List, _++_}
-use Prim.Native.Nat.{ℕ, _≤_}
+use Prim.Native.Nat.{ℕ}
 use lib.ListN.{length, take, drop}
 use lib.Seq.{take-append-seam}
 use Rattle.session.specs.declared.Refusal.{Refusal}
@@ -15,7 +15,7 @@ use Rattle.table_layout.specs.Layout.{openedOf}
 use Rattle.table_layout.specs.Layout.Passed.{starts-inside}
 use Rattle.table_writing.specs.declared.Written.{Written}
 use Rattle.table_writing.specs.declared.Written.the-variants.{Bytes, Refused}
-use Rattle.written_tables.specs.Settled.{textAgain, Settles, SettlesOr30}
+use Rattle.written_tables.specs.Settled.{textAgain, Settles}
 use Rattle.written_tables.specs.Settled.Theorem.{settled}
 use Rattle.rewritten_tables.specs.Rewriting.{noRows, RewritesAs, RewritesFrom, SettlesAs, SameAgain}
 use Rattle.rewritten_tables.specs.Rewriting.Laws.{read-opened}
