@@ -51,14 +51,14 @@ answer_in x =
     ]
 
 -- an opening is taken, or refused
-abbrev pub codeOfOpening : Opening → Coded
-codeOfOpening (opened s) = coded 103 0 0
-codeOfOpening (rejected r) = coded r.number r.place 0
+abbrev pub code_of_opening : Opening → Coded
+code_of_opening (opened s) = coded 103 0 0
+code_of_opening (rejected r) = coded r.number r.place 0
 
 -- whether it is taken
-abbrev pub isOpened : Opening → Bool
-isOpened (opened s) = true
-isOpened (rejected r) = false
+abbrev pub is_opened : Opening → Bool
+is_opened (opened s) = true
+is_opened (rejected r) = false
 
 -- a lent answer, as a call finds it and as it leaves it
 abbrev pub LentAnswer : Type 0

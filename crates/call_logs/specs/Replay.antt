@@ -6,7 +6,7 @@ use Rattle.machine.specs.Checks.{State}
 use Rattle.machine.specs.Machine.{Call, perform, run}
 use Rattle.machine.specs.Calls.{state_of, Words, Record}
 use Rattle.session.specs.declared.Session.{Session}
-use Rattle.session.specs.Records.{sameSession}
+use Rattle.session.specs.Records.{same_session}
 use Rattle.answer_words.specs.Codes.{coded, code_of, LentAnswer}
 use Rattle.answer_words.specs.declared.Answer.{Answer as Coded}
 use Rattle.logged_calls.specs.Kinds.{call_of}
@@ -21,13 +21,13 @@ calls_of zero ws = []
 calls_of (suc n) ws = call_of (get_or ws 0 0) (get_or ws 1 0) (get_or ws 2 0) (get_or ws 3 0) ∷ calls_of n (drop 4 ws)
 
 -- one call of a log: its answer, and the state after it
-abbrev pub replayCode : State → Option Call → Coded
-replayCode s none = coded 107 0 0
-replayCode s (some c) = code_of (perform s c).answer
+abbrev pub replay_code : State → Option Call → Coded
+replay_code s none = coded 107 0 0
+replay_code s (some c) = code_of (perform s c).answer
 
-abbrev pub replayAfter : State → Option Call → State
-replayAfter s none = s
-replayAfter s (some c) = (perform s c).after
+abbrev pub replay_after : State → Option Call → State
+replay_after s none = s
+replay_after s (some c) = (perform s c).after
 
 -- the calls of known kind
 unfoldable pub known : List (Option Call) → List Call
@@ -36,9 +36,9 @@ known (none ∷ cs) = known cs
 known (some c ∷ cs) = c ∷ known cs
 
 -- the answers to a log, one after the other
-unfoldable pub answersOf : State → List (Option Call) → List ℕ
-answersOf s [] = []
-answersOf s (c ∷ cs) = (replayCode s c).code ∷ (replayCode s c).first ∷ (replayCode s c).second ∷ answersOf (replayAfter s c) cs
+unfoldable pub answers_of : State → List (Option Call) → List ℕ
+answers_of s [] = []
+answers_of s (c ∷ cs) = (replay_code s c).code ∷ (replay_code s c).first ∷ (replay_code s c).second ∷ answers_of (replay_after s c) cs
 
 -- the words with an answer stored at i
 abbrev pub stored : List ℕ → ℕ → Coded → List ℕ
@@ -58,32 +58,32 @@ pub record LogWords : Type 0 where
   pub list : List ℕ
   pub answers : List ℕ
 
-abbrev pub logWords : List ℕ → List ℕ → List ℕ → LogWords
-logWords rows list answers = record { rows = rows; list = list; answers = answers }
+abbrev pub log_words : List ℕ → List ℕ → List ℕ → LogWords
+log_words rows list answers = record { rows = rows; list = list; answers = answers }
 
 -- the log of all whole calls in the words
-abbrev pub logOf : List ℕ → List (Option Call)
-logOf calls = calls_of (length calls / 4) calls
+abbrev pub log_of : List ℕ → List (Option Call)
+log_of calls = calls_of (length calls / 4) calls
 
 -- whether a log was replayed, in three words
-abbrev pub codeOfLog : Log → Coded
-codeOfLog Replayed = coded 103 0 0
-codeOfLog Short = coded 3 0 0
+abbrev pub code_of_log : Log → Coded
+code_of_log Replayed = coded 103 0 0
+code_of_log Short = coded 3 0 0
 
 module _ (background calls : List ℕ) (s : Session) (before : LogWords) (s' : Session) (after : LogWords) where
   -- every call was made: record and words hold the machine's state after the log, the answers are the machine's, one after the
   -- other, and every word past those in use is as it was lent
   pub record AllMade : Type 0 where
-    pub holds : state_of s' after.rows after.list background ≡ run (state_of s before.rows before.list background) (known (logOf calls))
-    pub answers : after.answers ≡ answersOf (state_of s before.rows before.list background) (logOf calls) ++ drop (length calls / 4 * 3) before.answers
+    pub holds : state_of s' after.rows after.list background ≡ run (state_of s before.rows before.list background) (known (log_of calls))
+    pub answers : after.answers ≡ answers_of (state_of s before.rows before.list background) (log_of calls) ++ drop (length calls / 4 * 3) before.answers
     pub rows : PastKept s.rows s'.rows before.rows after.rows
     pub list : PastKept s.rules s'.rules before.list after.list
 
   -- nothing was done, as the answers have no room for all calls
   pub record NoneMade : Type 0 where
     pub short : length before.answers / 3 < length calls / 4
-    pub same-record : s' ≡ s
-    pub same-words : after ≡ before
+    pub same_record : s' ≡ s
+    pub same_words : after ≡ before
 
   abbrev pub ReplaySays : Log → Type 0
   ReplaySays Replayed = AllMade
@@ -92,13 +92,13 @@ module _ (background calls : List ℕ) (s : Session) (before : LogWords) (s' : S
 -- what a replay promises of the lent words: rows, list, background, calls, answers
 abbrev pub Replays : Session → Words → Words → Words → Words → Words → Log → Session → Type 0
 Replays s rows list background calls answers log after =
-    ReplaySays background.entry.now calls.entry.now s (logWords rows.entry.now list.entry.now answers.entry.now) after
-    (logWords rows.exit.now list.exit.now answers.exit.now) log
+    ReplaySays background.entry.now calls.entry.now s (log_words rows.entry.now list.entry.now answers.entry.now) after
+    (log_words rows.exit.now list.exit.now answers.exit.now) log
 
 -- the same, in three words: made (103), or no room (3)
 abbrev pub ReplaysInWords : Session → Words → Words → Words → Words → Words → Coded → Session → Type 0
 ReplaysInWords s rows list background calls answers x after =
-    (log : Log) × (x ≡ codeOfLog log) × Replays s rows list background calls answers log after
+    (log : Log) × (x ≡ code_of_log log) × Replays s rows list background calls answers log after
 
 -- over a lent record, with the answer put where the caller says
 abbrev pub ReplaysOn : Record → Words → Words → Words → Words → Words → LentAnswer → Type 0
@@ -108,4 +108,4 @@ ReplaysOn session rows list background calls answers answer =
 -- and whether the record changed
 abbrev pub ReplaysCoded : Session → Words → Words → Words → Words → Words → Coded → Session → Bool → Type 0
 ReplaysCoded s rows list background calls answers x after changed =
-    ReplaysInWords s rows list background calls answers x after × (changed ≡ not (sameSession s after))
+    ReplaysInWords s rows list background calls answers x after × (changed ≡ not (same_session s after))

@@ -3,25 +3,25 @@
 use Rattle.std.specs.Prelude.{◌≡◌, List, ℕ}
 use Rattle.std.proofs.Math.Option.{none, some}
 use Rattle.context.specs.Objects.{Object}
-use Rattle.machine.specs.Checks.{State, firstFailing, filingChecks}
-use Rattle.machine.specs.Machine.{file, taken, refused, Turn, turn, afterFiling}
+use Rattle.machine.specs.Checks.{State, first_failing, filing_checks}
+use Rattle.machine.specs.Machine.{file, taken, refused, Turn, turn, after_filing}
 use Rattle.machine.specs.Calls.{Words, state_of, rows_by, changes}
 use Rattle.session.specs.declared.Session.{Session}
 use Rattle.session_replies.specs.declared.Replied.{Replied}
-use Rattle.session_replies.specs.Answers.{replyAnswer}
+use Rattle.session_replies.specs.Answers.{reply_answer}
 pub mod Laws
 
 -- refused by the first of 9, 11 and 12 that fails; else one row more
-unfoldable pub fileChecked : State → Object → Turn
-fileChecked s o = elim (firstFailing (filingChecks s o)) [ none ↦ turn taken (afterFiling s o) | some r ↦ turn (refused r) s ]
+unfoldable pub file_checked : State → Object → Turn
+file_checked s o = elim (first_failing (filing_checks s o)) [ none ↦ turn taken (after_filing s o) | some r ↦ turn (refused r) s ]
 
 -- the answer, the state that record and words then hold, every lent word, and whether the record changed
 pub record FiledFrom (o : Object) (s : Session) (rows list background : List ℕ) (x : Replied) (rows' list' : List ℕ) : Type 0 where
-  pub answer : replyAnswer x.answer ≡ (fileChecked (state_of s rows list background) o).answer
-  pub state : state_of x.session rows' list' background ≡ (fileChecked (state_of s rows list background) o).after
-  pub rows_written : rows' ≡ rows_by (file o) (fileChecked (state_of s rows list background) o).answer (state_of s rows list background) rows
-  pub list-kept : list' ≡ list
-  pub change : x.changed ≡ changes (fileChecked (state_of s rows list background) o).answer
+  pub answer : reply_answer x.answer ≡ (file_checked (state_of s rows list background) o).answer
+  pub state : state_of x.session rows' list' background ≡ (file_checked (state_of s rows list background) o).after
+  pub rows_written : rows' ≡ rows_by (file o) (file_checked (state_of s rows list background) o).answer (state_of s rows list background) rows
+  pub list_kept : list' ≡ list
+  pub change : x.changed ≡ changes (file_checked (state_of s rows list background) o).answer
 
 abbrev pub FilesChecked : Object → Session → Words → Words → Words → Replied → Type 0
 FilesChecked o s rows list background x =

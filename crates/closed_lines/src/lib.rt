@@ -1,7 +1,7 @@
 // Lines as text, each closed by a line feed, written into a lent buffer from an offset on; the answer is the offset behind them.
 ghost use Rattle.std.specs.Prelude.{◌≡◌, [], ◌∷◌};
 ghost use Rattle.text.specs.Page.{Puts};
-ghost use Rattle.closed_lines.specs.Closed.{closed, bytesIn, first_lines};
+ghost use Rattle.closed_lines.specs.Closed.{closed, bytes_in, first_lines};
 
 // A line.
 fn put_line(out: &mut [u8], at: usize, line: &[u8]) -> usize
@@ -33,7 +33,7 @@ pub fn put_lines(out: &mut [u8], at: usize, bytes: &[u8], count: usize) -> usize
 
 // How many bytes the first lines of lent bytes have, without their ends.
 pub fn size_of_lines(bytes: &[u8], count: usize) -> usize
-    ensures { result ≡ bytesIn (first_lines count bytes.now) }
+    ensures { result ≡ bytes_in (first_lines count bytes.now) }
 {
     let mut size = 0;
     let mut from = 0;

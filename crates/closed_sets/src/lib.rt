@@ -1,12 +1,12 @@
 // The next closed set.
 ghost use Rattle.std.specs.Prelude.{◌≡◌, min};
-ghost use Rattle.implication.specs.Closure.{inForce};
+ghost use Rattle.implication.specs.Closure.{in_force};
 ghost use Rattle.next_set.specs.Next.{next};
 
 // The next closed set after set among the first n attributes (of 64 at the most); set itself where there is none.
 // Downwards from the last attribute: a candidate is given up as soon as it gains an attribute below its own.
 pub fn next_of(background: &[u64], list: &[u64], count: usize, n: usize, set: u64) -> u64
-    ensures { result ≡ next (inForce background.now list.now count) (min n 64) set }
+    ensures { result ≡ next (in_force background.now list.now count) (min n 64) set }
 {
     let mut j = closures::smaller(n, 64);
     while 0 < j {

@@ -1,14 +1,14 @@
 -- The line that closes the program's output, as bytes (01, "The program"): an END or an E line, with its line feed.
 use Rattle.std.specs.Prelude.{List, ◌∷◌, ◌++◌, ℕ}
 use Rattle.session.specs.declared.Refusal.{Refusal}
-use Rattle.text.specs.Text.{numberText, space, newline}
+use Rattle.text.specs.Text.{number_text, space, newline}
 pub mod Laws
 
 -- `END`, rules, rows in use, changes of the current set
-abbrev pub endLine : ℕ → ℕ → ℕ → List ℕ
-endLine rules rows changes =
-    69 ∷ 78 ∷ 68 ∷ 32 ∷ (numberText rules ++ (space ++ (numberText rows ++ (space ++ (numberText changes ++ newline)))))
+abbrev pub end_line : ℕ → ℕ → ℕ → List ℕ
+end_line rules rows changes =
+    69 ∷ 78 ∷ 68 ∷ 32 ∷ (number_text rules ++ (space ++ (number_text rows ++ (space ++ (number_text changes ++ newline)))))
 
 -- `E`, number and place
-abbrev pub refusalLine : Refusal → List ℕ
-refusalLine r = 69 ∷ 32 ∷ (numberText r.number ++ (space ++ (numberText r.place ++ newline)))
+abbrev pub refusal_line : Refusal → List ℕ
+refusal_line r = 69 ∷ 32 ∷ (number_text r.number ++ (space ++ (number_text r.place ++ newline)))

@@ -1,6 +1,6 @@
 // The closure of a set under the implications in force.
 ghost use Rattle.std.specs.Prelude.{◌≡◌, ◌*◌, ◌≤◌, min, length};
-ghost use Rattle.implication.specs.Closure.{implicationsOf, inForce, closure};
+ghost use Rattle.implication.specs.Closure.{implications_of, in_force, closure};
 ghost use Rattle.implication.specs.Until.{PassUntil, CloseUntil};
 
 // The smaller of two numbers.
@@ -16,7 +16,7 @@ pub fn smaller(a: usize, b: usize) -> usize
 // One pass over the first count implications, given up as soon as one brings a member of stop.
 fn pass_until(rules: &[u64], count: usize, set: u64, stop: u64) -> u64
     requires { count * 2 ≤ length rules.now }
-    ensures { PassUntil (implicationsOf count rules.now) set stop result }
+    ensures { PassUntil (implications_of count rules.now) set stop result }
 {
     let mut s = set;
     let mut i = 0;
@@ -38,7 +38,7 @@ fn pass_until(rules: &[u64], count: usize, set: u64, stop: u64) -> u64
 // The closure under the implications in force, the whole background and the first count of the list, given up as soon as it
 // holds a member of stop: rounds over both, until one changes nothing.
 pub fn close_until(background: &[u64], list: &[u64], count: usize, set: u64, stop: u64) -> u64
-    ensures { CloseUntil (closure (inForce background.now list.now count) set) stop result }
+    ensures { CloseUntil (closure (in_force background.now list.now count) set) stop result }
 {
     let b = background.len() / 2;
     let l = smaller(count, list.len() / 2);
@@ -61,7 +61,7 @@ pub fn close_until(background: &[u64], list: &[u64], count: usize, set: u64, sto
 
 // The closure of a set under the implications in force.
 pub fn closure_of(background: &[u64], list: &[u64], count: usize, set: u64) -> u64
-    ensures { result ≡ closure (inForce background.now list.now count) set }
+    ensures { result ≡ closure (in_force background.now list.now count) set }
 {
     close_until(background, list, count, set, 0)
 }

@@ -1,10 +1,10 @@
 // The replay of a log of calls, with its answer in three words.
 ghost use Rattle.std.specs.Prelude.{◌≡◌};
-ghost use Rattle.call_logs.specs.Replay.{codeOfLog, ReplaysCoded};
+ghost use Rattle.call_logs.specs.Replay.{code_of_log, ReplaysCoded};
 
 // Whether a log was replayed, in three words.
 fn answer_of_log(log: call_logs::Log) -> answer_words::Answer
-    ensures { result ≡ codeOfLog log }
+    ensures { result ≡ code_of_log log }
 {
     match log {
         call_logs::Log::Replayed => answer_words::in_words(answer_words::Answer::TAKEN, 0, 0),

@@ -1,10 +1,10 @@
 // Where a name stands in a table file, with the answer in three words.
 ghost use Rattle.std.specs.Prelude.{◌≡◌};
-ghost use Rattle.name_spans.specs.Spans.{objectSpan, attributeSpan};
-ghost use Rattle.coded_tables.specs.Tables.{codeOfSpan};
+ghost use Rattle.name_spans.specs.Spans.{object_span, attribute_span};
+ghost use Rattle.coded_tables.specs.Tables.{code_of_span};
 
 fn answer_of_span(span: name_spans::Span) -> answer_words::Answer
-    ensures { result ≡ codeOfSpan span }
+    ensures { result ≡ code_of_span span }
 {
     if span.size == 0 {
         return answer_words::in_words(answer_words::Answer::NO_ROOM, 0, 0);
@@ -18,7 +18,7 @@ fn answer_of_span(span: name_spans::Span) -> answer_words::Answer
 
 // Where the name of an object stands in the file: its offset and how many bytes it has; 3 where there is no such name.
 pub fn object_name(layout: table_layout::Layout, file: &[u8], number: usize) -> answer_words::Answer
-    ensures { result ≡ codeOfSpan (objectSpan file.now layout number) }
+    ensures { result ≡ code_of_span (object_span file.now layout number) }
 {
     answer_of_span(name_spans::object_span(file, layout, number))
 }
@@ -29,7 +29,7 @@ pub fn attribute_name(
     file: &[u8],
     number: usize,
 ) -> answer_words::Answer
-    ensures { result ≡ codeOfSpan (attributeSpan file.now layout number) }
+    ensures { result ≡ code_of_span (attribute_span file.now layout number) }
 {
     answer_of_span(name_spans::attribute_span(file, layout, number))
 }

@@ -9,10 +9,10 @@ use Rattle.nearly_listing.specs.declared.Nearly.TheVariants.{Listed, Refused}
 use Rattle.nearly_listing.specs.Listing.{listing}
 pub mod Laws
 
-abbrev pub codeOfNearly : Nearly → Coded
-codeOfNearly (Listed set) = coded 103 set 0
-codeOfNearly (Refused r) = coded r.number r.place 0
+abbrev pub code_of_nearly : Nearly → Coded
+code_of_nearly (Listed set) = coded 103 set 0
+code_of_nearly (Refused r) = coded r.number r.place 0
 
 -- the words say what listing answers, over the lent row words
 abbrev pub ListsCoded : ℕ → ℕ → Words → ℕ → ℕ → Coded → Type 0
-ListsCoded n used rows premise percent x = x ≡ codeOfNearly (listing n used rows.entry.now premise percent)
+ListsCoded n used rows premise percent x = x ≡ code_of_nearly (listing n used rows.entry.now premise percent)

@@ -1,12 +1,12 @@
 // Listing what nearly always comes with a premise, with its answer in three words.
 ghost use Rattle.std.specs.Prelude.{◌≡◌};
-ghost use Rattle.coded_nearly.specs.Listing.{codeOfNearly, ListsCoded};
+ghost use Rattle.coded_nearly.specs.Listing.{code_of_nearly, ListsCoded};
 
 use answer_words::Answer;
 use nearly_listing::Nearly;
 
 fn answer_of(listed: Nearly) -> Answer
-    ensures { result ≡ codeOfNearly listed }
+    ensures { result ≡ code_of_nearly listed }
 {
     match listed {
         Nearly::Listed(set) => answer_words::in_words(Answer::TAKEN, set, 0),

@@ -8,27 +8,27 @@ use Rattle.answer_words.specs.Codes.{coded, LentAnswer}
 use Rattle.table_layout.specs.declared.Layout.{Layout}
 use Rattle.table_layout.specs.declared.Opened.{Opened}
 use Rattle.table_layout.specs.declared.Opened.TheVariants.{Found, Refused}
-use Rattle.mark_reading.specs.Marks.{readingAs, rowWords}
+use Rattle.mark_reading.specs.Marks.{reading_as, words_of_rows}
 use Rattle.name_spans.specs.declared.Span.{Span}
 pub mod Laws
 
-abbrev pub codeOfOpened : Opened → Coded
-codeOfOpened (Found l) = coded 103 0 0
-codeOfOpened (Refused r) = coded r.number r.place 0
+abbrev pub code_of_opened : Opened → Coded
+code_of_opened (Found l) = coded 103 0 0
+code_of_opened (Refused r) = coded r.number r.place 0
 
-abbrev pub layoutAfter : Opened → Layout → Layout
-layoutAfter (Found l) given = l
-layoutAfter (Refused r) given = given
+abbrev pub layout_after : Opened → Layout → Layout
+layout_after (Found l) given = l
+layout_after (Refused r) given = given
 
 -- whether a layout was found
-abbrev pub isFound : Opened → Bool
-isFound (Found l) = true
-isFound (Refused r) = false
+abbrev pub is_found : Opened → Bool
+is_found (Found l) = true
+is_found (Refused r) = false
 
 -- What opening a table promises of the layout that is kept and of the answer: the file was opened as said.
 pub record OpensTable (opened : Opened) (before : Layout) (x : Coded) (after : Layout) : Type 0 where
-  pub answer : x ≡ codeOfOpened opened
-  pub layout : after ≡ layoutAfter opened before
+  pub answer : x ≡ code_of_opened opened
+  pub layout : after ≡ layout_after opened before
 
 -- over a lent layout, with the answer put where the caller says
 abbrev pub OpensTableOn : Opened → Both (Bor Layout) (Bor Layout) → LentAnswer → Type 0
@@ -37,17 +37,17 @@ OpensTableOn opened layout answer = OpensTable opened layout.entry.now answer.ex
 -- the same, and whether the layout changed
 pub record FindsTable (opened : Opened) (before : Layout) (x : Coded) (after : Layout) (changed : Bool) : Type 0 where
   pub opens : OpensTable opened before x after
-  pub change : changed ≡ isFound opened
+  pub change : changed ≡ is_found opened
 
 -- What reading the marks of an opened table promises: the answer, and the row words.
 pub record MarksRead (opened : Opened) (file words : List ℕ) (x : Coded) (words' : List ℕ) : Type 0 where
-  pub answer : x ≡ codeOfOpened opened
-  pub written : words' ≡ rowWords opened file words
+  pub answer : x ≡ code_of_opened opened
+  pub written : words' ≡ words_of_rows opened file words
 
 abbrev pub ReadsMarks : Layout → Both (Bor (List ℕ)) (Bor (List ℕ)) → Both (Bor (List ℕ)) (Bor (List ℕ)) → Coded → Type 0
 ReadsMarks layout file rows x =
-    MarksRead (readingAs layout (length rows.entry.now) file.entry.now) file.entry.now rows.entry.now x rows.exit.now
+    MarksRead (reading_as layout (length rows.entry.now) file.entry.now) file.entry.now rows.entry.now x rows.exit.now
 
 -- where a name stands: its offset and how many bytes it has; no name is empty, so that no bytes are refusal 3
-abbrev pub codeOfSpan : Span → Coded
-codeOfSpan s = elim (eqb s.size 0) [ true ↦ coded 3 0 0 | false ↦ coded 103 s.at s.size ]
+abbrev pub code_of_span : Span → Coded
+code_of_span s = elim (eqb s.size 0) [ true ↦ coded 3 0 0 | false ↦ coded 103 s.at s.size ]

@@ -1,6 +1,6 @@
 // The table reader with its answers in three words: the layout that the caller keeps goes in, and comes back where it may have changed.
 ghost use Rattle.table_layout.specs.Layout.{opened_of};
-ghost use Rattle.complete_tables.specs.Complete.{openedComplete};
+ghost use Rattle.complete_tables.specs.Complete.{opened_complete};
 ghost use Rattle.coded_tables.specs.Tables.{FindsTable, ReadsMarks};
 
 // The answer to a call, the layout after it, and whether it differs from the one before.
@@ -38,7 +38,7 @@ pub fn open(layout: table_layout::Layout, file: &[u8]) -> Found
 
 // Opens a table file that has to be complete: 21 to 29.
 pub fn open_complete(layout: table_layout::Layout, file: &[u8]) -> Found
-    ensures { FindsTable (openedComplete file.now) layout result.answer result.layout result.changed }
+    ensures { FindsTable (opened_complete file.now) layout result.answer result.layout result.changed }
 {
     let opened = complete_tables::open_complete(file);
     found_as(opened, layout)

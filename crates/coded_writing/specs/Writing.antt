@@ -10,10 +10,10 @@ use Rattle.table_writing.specs.declared.Written.TheVariants.{Bytes, Refused}
 use Rattle.table_writing.specs.Writing.{Writes}
 pub mod Laws
 
-abbrev pub codeOfWritten : Written → Coded
-codeOfWritten (Bytes size) = coded 103 size 0
-codeOfWritten (Refused r) = coded r.number r.place 0
+abbrev pub code_of_written : Written → Coded
+code_of_written (Bytes size) = coded 103 size 0
+code_of_written (Refused r) = coded r.number r.place 0
 
 -- the words say what writing answers, over the lent slices: row words, names, output
 abbrev pub WritesCoded : ℕ → ℕ → Words → Buffer → Buffer → Coded → Type 0
-WritesCoded n used rows names out x = (w : Written) × (x ≡ codeOfWritten w) × Writes n used rows names out w
+WritesCoded n used rows names out x = (w : Written) × (x ≡ code_of_written w) × Writes n used rows names out w

@@ -1,12 +1,12 @@
 // The writer of table files with its answer in three words.
 ghost use Rattle.std.specs.Prelude.{◌≡◌};
-ghost use Rattle.coded_writing.specs.Writing.{codeOfWritten, WritesCoded};
+ghost use Rattle.coded_writing.specs.Writing.{code_of_written, WritesCoded};
 
 use answer_words::Answer;
 use table_writing::Written;
 
 fn answer_of(written: Written) -> Answer
-    ensures { result ≡ codeOfWritten written }
+    ensures { result ≡ code_of_written written }
 {
     match written {
         Written::Bytes(size) => answer_words::in_words(Answer::TAKEN, size as u64, 0),

@@ -2,7 +2,7 @@
 use Rattle.std.specs.Prelude.{true, false, List, ℕ, zero, suc}
 use Rattle.session.specs.Refusals.{refusal}
 use Rattle.table_lines.specs.Lines.{bytes_at, after}
-use Rattle.table_bytes.specs.Bytes.{isKnown}
+use Rattle.table_bytes.specs.Bytes.{is_known}
 use Rattle.line_bytes.specs.Everywhere.{everywhere}
 use Rattle.table_layout.specs.Layout.{opened_of}
 use Rattle.table_layout.specs.declared.Layout.{Layout}
@@ -11,15 +11,15 @@ use Rattle.table_layout.specs.declared.Opened.TheVariants.{Found, Refused}
 pub mod Laws
 
 -- of count lines of marks from an offset on, the first with an unknown mark: 29 and its offset
-unfoldable pub completeFrom : ℕ → Layout → List ℕ → ℕ → Opened
-completeFrom zero l file at = Found l
-completeFrom (suc k) l file at =
-    elim (everywhere isKnown (bytes_at file at)) [ true ↦ completeFrom k l file (after file at) | false ↦ Refused (refusal 29 at) ]
+unfoldable pub complete_from : ℕ → Layout → List ℕ → ℕ → Opened
+complete_from zero l file at = Found l
+complete_from (suc k) l file at =
+    elim (everywhere is_known (bytes_at file at)) [ true ↦ complete_from k l file (after file at) | false ↦ Refused (refusal 29 at) ]
 
 -- a complete table: 29 comes after 21 to 28 have passed for the whole file
-abbrev pub completeOf : List ℕ → Opened → Opened
-completeOf file (Found l) = completeFrom l.objects l file l.marks
-completeOf file (Refused r) = Refused r
+abbrev pub complete_of : List ℕ → Opened → Opened
+complete_of file (Found l) = complete_from l.objects l file l.marks
+complete_of file (Refused r) = Refused r
 
-abbrev pub openedComplete : List ℕ → Opened
-openedComplete file = completeOf file (opened_of file)
+abbrev pub opened_complete : List ℕ → Opened
+opened_complete file = complete_of file (opened_of file)

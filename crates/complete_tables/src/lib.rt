@@ -2,14 +2,14 @@
 ghost use Rattle.std.specs.Prelude.{◌≡◌};
 ghost use Rattle.table_layout.specs.declared.Opened.TheVariants.{Found};
 ghost use Rattle.table_layout.specs.Layout.{opened_of};
-ghost use Rattle.complete_tables.specs.Complete.{completeOf, openedComplete};
+ghost use Rattle.complete_tables.specs.Complete.{complete_of, opened_complete};
 
 use table_layout::{Layout, Opened};
 
 // The first of the lines of marks of an opened table that has an unknown mark is refused with 29.
 fn complete_from(file: &[u8], layout: Layout) -> Opened
     requires { opened_of file.now ≡ Found layout }
-    ensures { result ≡ completeOf file.now (Found layout) }
+    ensures { result ≡ complete_of file.now (Found layout) }
 {
     let count = layout.objects;
     let n = layout.attributes;
@@ -28,7 +28,7 @@ fn complete_from(file: &[u8], layout: Layout) -> Opened
 
 // Opens a table file that has to be complete: 29 comes after 21 to 28 have passed for the whole file.
 pub fn open_complete(file: &[u8]) -> Opened
-    ensures { result ≡ openedComplete file.now }
+    ensures { result ≡ opened_complete file.now }
 {
     let opened = table_layout::open(file);
     match opened {

@@ -5,13 +5,13 @@ use Rattle.std.specs.Int.Bits.{bit_or}
 use Rattle.theory.specs.Lists.{All}
 use Rattle.theory.specs.Implications.{Implication}
 use Rattle.attribute_set.specs.Sets.{Sub, Apart, full, without}
-use Rattle.context.specs.Objects.{Object, object, refutesWritten}
+use Rattle.context.specs.Objects.{Object, object, refutes_written}
 pub mod Laws
 
 -- a complete object over n attributes: none is unknown, and none is marked both ways
 pub record Complete (n : ℕ) (o : Object) : Type 0 where
-  pub whole : bit_or o.yes-marks o.no-marks ≡ full n
-  pub apart : Apart o.yes-marks o.no-marks
+  pub whole : bit_or o.yes_marks o.no_marks ≡ full n
+  pub apart : Apart o.yes_marks o.no_marks
 
 -- a complete table has only complete objects, possibly none
 abbrev pub Table : ℕ → List Object → Type 0
@@ -23,8 +23,8 @@ completed n s = object s (without (full n) s)
 
 -- c has all marks of o
 pub record Extends (o c : Object) : Type 0 where
-  pub yes-marks : Sub o.yes-marks c.yes-marks
-  pub no-marks : Sub o.no-marks c.no-marks
+  pub yes_marks : Sub o.yes_marks c.yes_marks
+  pub no_marks : Sub o.no_marks c.no_marks
 
 -- the table agrees with o: one of its objects has all marks of o
 pub record AgreesObject (t : List Object) (o : Object) : Type 0 where
@@ -34,4 +34,4 @@ pub record AgreesObject (t : List Object) (o : Object) : Type 0 where
 
 -- the table agrees with r: none of its objects refutes r, by its own marks
 abbrev pub AgreesImplication : List Object → Implication ℕ → Type 0
-AgreesImplication t r = All (λ c. refutesWritten c r ≡ false) t
+AgreesImplication t r = All (λ c. refutes_written c r ≡ false) t

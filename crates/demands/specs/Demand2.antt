@@ -7,8 +7,8 @@ use Rattle.std.proofs.Math.Option.{none}
 use Rattle.theory.specs.Lists.{All}
 use Rattle.context.specs.Objects.{Object}
 use Rattle.context.specs.Tables.{Table, AgreesObject, AgreesImplication}
-use Rattle.machine.specs.Checks.{State, firstFailing, sessionChecks, yesChecks, testChecks, filingChecks, fillChecks, force, question}
-use Rattle.machine.specs.Machine.{Call, accept, reject, file, fill, refused, afterFill, perform}
+use Rattle.machine.specs.Checks.{State, first_failing, session_checks, yes_checks, test_checks, filing_checks, fill_checks, force, question}
+use Rattle.machine.specs.Machine.{Call, accept, reject, file, fill, refused, after_fill, perform}
 use Rattle.demands.specs.Replies.{Reply, agreed, offered, AgreesReply}
 pub mod Theorem
 
@@ -33,23 +33,23 @@ Contradictory s r = (t : List Object) → Agrees s r t → ⊥
 
 -- no complete table agrees with all rows, row k filled with the marks of m, and all rules
 abbrev pub ContradictoryFilled : State → ℕ → Object → Type 0
-ContradictoryFilled s k m = (t : List Object) → AgreesAll (afterFill s k m) t → ⊥
+ContradictoryFilled s k m = (t : List Object) → AgreesAll (after_fill s k m) t → ⊥
 
 -- the checks before 11: 1 to 7, then 8 of a yes, those of the test, 8, 9, 10, of a no, 9 of a filing, and 32, 9, 33 of a filling
 abbrev pub YesUpTo11 : State → Type 0
-YesUpTo11 s = firstFailing (sessionChecks s [] ++ take 1 (yesChecks s)) ≡ none
+YesUpTo11 s = first_failing (session_checks s [] ++ take 1 (yes_checks s)) ≡ none
 
 abbrev pub NoUpTo11 : State → Object → Type 0
-NoUpTo11 s o = firstFailing (sessionChecks s [] ++ testChecks s o) ≡ none
+NoUpTo11 s o = first_failing (session_checks s [] ++ test_checks s o) ≡ none
 
 abbrev pub FilingUpTo11 : State → Object → Type 0
-FilingUpTo11 s o = firstFailing (sessionChecks s [] ++ take 1 (filingChecks s o)) ≡ none
+FilingUpTo11 s o = first_failing (session_checks s [] ++ take 1 (filing_checks s o)) ≡ none
 
 abbrev pub FillUpTo11 : State → ℕ → Object → Type 0
-FillUpTo11 s k m = firstFailing (sessionChecks s [] ++ take 3 (fillChecks s k m)) ≡ none
+FillUpTo11 s k m = first_failing (session_checks s [] ++ take 3 (fill_checks s k m)) ≡ none
 
 pub record Demand2 : Type 0 where
-  pub yes-call : (s : State) → YesUpTo11 s → Refused11 s accept ↔ Contradictory s (agreed (question s))
+  pub yes_call : (s : State) → YesUpTo11 s → Refused11 s accept ↔ Contradictory s (agreed (question s))
   pub no_call : (s : State) (o : Object) → NoUpTo11 s o → Refused11 s (reject o) ↔ Contradictory s (offered o)
   pub filing : (s : State) (o : Object) → FilingUpTo11 s o → Refused11 s (file o) ↔ Contradictory s (offered o)
   pub filling : (s : State) (k : ℕ) (m : Object) → FillUpTo11 s k m → Refused11 s (fill k m) ↔ ContradictoryFilled s k m

@@ -9,7 +9,7 @@ use Rattle.implication.specs.Closure.{follows}
 use Rattle.context.specs.Objects.{Object, refutes}
 use Rattle.machine.specs.Checks.{Lent, State, force}
 use Rattle.machine.specs.Machine.{Call, step, finished, perform, run, opening, opened}
-use Rattle.demands.specs.Replies.{agreedIn, offeredIn, filledBy, replies, Truthful}
+use Rattle.demands.specs.Replies.{agreed_in, offered_in, filled_by, replies, Truthful}
 pub mod Invariant
 pub mod Theorem
 
@@ -32,13 +32,13 @@ SameConsequences n background l l' = (r : Implication ℕ) → OverM n r → (fo
 -- what holds after an opening with these n, lent lengths, background and rows, which left `start`, and a list of calls
 pub record AfterCalls (n : ℕ) (lent : Lent) (background : List (Implication ℕ)) (rows : List Object) (start : State) (calls : List Call) : Type 0 where
   -- nothing alters n, the lent lengths and the background
-  pub same-n : (run start calls).n ≡ n
-  pub same-lent : (run start calls).lent ≡ lent
-  pub same-background : (run start calls).background ≡ background
+  pub same_n : (run start calls).n ≡ n
+  pub same_lent : (run start calls).lent ≡ lent
+  pub same_background : (run start calls).background ≡ background
   -- 2. the rows are those of the opening, then the offered rows of the accepted no calls and filings in order, each with the marks of the
   -- accepted fillings of its number; the list is the questions of the accepted yes calls in order
-  pub all-rows : (run start calls).rows ≡ filledBy (replies start calls) (rows ++ offeredIn (replies start calls))
-  pub all_list : (run start calls).list ≡ agreedIn (replies start calls)
+  pub all_rows : (run start calls).rows ≡ filled_by (replies start calls) (rows ++ offered_in (replies start calls))
+  pub all_list : (run start calls).list ≡ agreed_in (replies start calls)
   -- 3. decided: once finished, an implication over M follows from background and list just if no row refutes it
   pub decided : Finished (run start calls) → (r : Implication ℕ) → OverM n r
       → (follows (background ++ (run start calls).list) r ≡ true) ↔ Unrefuted (run start calls) r
@@ -55,6 +55,6 @@ SameList n background =
     → (t : List Object) → Truthful t start calls → Truthful t start' calls' → (run start calls).list ≡ (run start' calls').list
 
 pub record Demand3 : Type 0 where
-  pub after-calls : (n : ℕ) (lent : Lent) (background : List (Implication ℕ)) (rows : List Object) (start : State)
+  pub after_calls : (n : ℕ) (lent : Lent) (background : List (Implication ℕ)) (rows : List Object) (start : State)
       → opening n lent background rows ≡ opened start → (calls : List Call) → AfterCalls n lent background rows start calls
-  pub same-list : (n : ℕ) (background : List (Implication ℕ)) → SameList n background
+  pub same_list : (n : ℕ) (background : List (Implication ℕ)) → SameList n background

@@ -23,5 +23,5 @@ in_turn s c d = elim (is_refused (perform s c).answer) [ true ↦ perform s c | 
 
 pub record InTurn : Type 0 where
   -- the test changes nothing, whatever it answers
-  pub test-leaves : (s : State) (o : Object) → (perform s (test o)).after ≡ s
-  pub in-turn : (s : State) (o : Object) → perform s (reject o) ≡ in_turn s (test o) (file o)
+  pub test_leaves : (s : State) (o : Object) → (perform s (test o)).after ≡ s
+  pub as_in_turn : (s : State) (o : Object) → perform s (reject o) ≡ in_turn s (test o) (file o)

@@ -5,7 +5,7 @@ use Rattle.std.proofs.Math.Option.{Option, none, some}
 use Rattle.theory.specs.Lists.{All}
 use Rattle.theory.specs.Implications.{Implication}
 use Rattle.context.specs.Objects.{Object, object}
-use Rattle.context.specs.Filling.{joined, filledAt}
+use Rattle.context.specs.Filling.{joined, filled_at}
 use Rattle.context.specs.Tables.{Table, AgreesObject, AgreesImplication}
 use Rattle.machine.specs.Checks.{State}
 use Rattle.machine.specs.Machine.{Call, step, accept, reject, follow, refute, test, file, fill, Answer, finished, moved, asked, taken, followed, refuted, unrefuted, refuting, refused, perform, run}
@@ -18,20 +18,20 @@ pub data Reply : Type 0 where
   offered : Object → Reply
   filled : ℕ → Object → Reply
 
-unfoldable pub askedBy : Answer → Option (Implication ℕ)
-askedBy finished = none
-askedBy moved = none
-askedBy (asked q) = some q
-askedBy taken = none
-askedBy (followed b) = none
-askedBy (refuted p) = none
-askedBy unrefuted = none
-askedBy refuting = none
-askedBy (refused r) = none
+unfoldable pub asked_by : Answer → Option (Implication ℕ)
+asked_by finished = none
+asked_by moved = none
+asked_by (asked q) = some q
+asked_by taken = none
+asked_by (followed b) = none
+asked_by (refuted p) = none
+asked_by unrefuted = none
+asked_by refuting = none
+asked_by (refused r) = none
 
 -- the question of a reply in this state: what a step in its place would answer with Asked
-unfoldable pub questionAt : State → Option (Implication ℕ)
-questionAt s = askedBy (perform s step).answer
+unfoldable pub question_at : State → Option (Implication ℕ)
+question_at s = asked_by (perform s step).answer
 
 unfoldable pub is_taken : Answer → Bool
 is_taken finished = false
@@ -44,55 +44,55 @@ is_taken unrefuted = false
 is_taken refuting = false
 is_taken (refused r) = false
 
-abbrev pub agreedTo : Option (Implication ℕ) → List Reply
-agreedTo none = []
-agreedTo (some q) = agreed q ∷ []
+abbrev pub agreed_to : Option (Implication ℕ) → List Reply
+agreed_to none = []
+agreed_to (some q) = agreed q ∷ []
 
 -- the reply that a call is, once accepted
-unfoldable pub madeBy : State → Call → List Reply
-madeBy s step = []
-madeBy s accept = agreedTo (questionAt s)
-madeBy s (reject o) = offered o ∷ []
-madeBy s (follow r) = []
-madeBy s (refute r) = []
-madeBy s (test o) = []
-madeBy s (file o) = offered o ∷ []
-madeBy s (fill k m) = filled k m ∷ []
+unfoldable pub made_by : State → Call → List Reply
+made_by s step = []
+made_by s accept = agreed_to (question_at s)
+made_by s (reject o) = offered o ∷ []
+made_by s (follow r) = []
+made_by s (refute r) = []
+made_by s (test o) = []
+made_by s (file o) = offered o ∷ []
+made_by s (fill k m) = filled k m ∷ []
 
-unfoldable pub replyOf : State → Call → List Reply
-replyOf s c = elim (is_taken (perform s c).answer) [ true ↦ madeBy s c | false ↦ [] ]
+unfoldable pub reply_of : State → Call → List Reply
+reply_of s c = elim (is_taken (perform s c).answer) [ true ↦ made_by s c | false ↦ [] ]
 
 -- the accepted replies of a list of calls, in order
 unfoldable pub replies : State → List Call → List Reply
 replies s [] = []
-replies s (c ∷ cs) = replyOf s c ++ replies (perform s c).after cs
+replies s (c ∷ cs) = reply_of s c ++ replies (perform s c).after cs
 
 -- the questions of the accepted yes calls; the offered objects of the accepted no calls and filings
-unfoldable pub agreedIn : List Reply → List (Implication ℕ)
-agreedIn [] = []
-agreedIn (agreed q ∷ rs) = q ∷ agreedIn rs
-agreedIn (offered o ∷ rs) = agreedIn rs
-agreedIn (filled k m ∷ rs) = agreedIn rs
+unfoldable pub agreed_in : List Reply → List (Implication ℕ)
+agreed_in [] = []
+agreed_in (agreed q ∷ rs) = q ∷ agreed_in rs
+agreed_in (offered o ∷ rs) = agreed_in rs
+agreed_in (filled k m ∷ rs) = agreed_in rs
 
-unfoldable pub offeredIn : List Reply → List Object
-offeredIn [] = []
-offeredIn (agreed q ∷ rs) = offeredIn rs
-offeredIn (offered o ∷ rs) = o ∷ offeredIn rs
-offeredIn (filled k m ∷ rs) = offeredIn rs
+unfoldable pub offered_in : List Reply → List Object
+offered_in [] = []
+offered_in (agreed q ∷ rs) = offered_in rs
+offered_in (offered o ∷ rs) = o ∷ offered_in rs
+offered_in (filled k m ∷ rs) = offered_in rs
 
 -- rows as filled: each with the marks of the accepted fillings of its number (`row-filled`)
-unfoldable pub filledBy : List Reply → List Object → List Object
-filledBy [] os = os
-filledBy (agreed q ∷ rs) os = filledBy rs os
-filledBy (offered o ∷ rs) os = filledBy rs os
-filledBy (filled k m ∷ rs) os = filledBy rs (filledAt k m os)
+unfoldable pub filled_by : List Reply → List Object → List Object
+filled_by [] os = os
+filled_by (agreed q ∷ rs) os = filled_by rs os
+filled_by (offered o ∷ rs) os = filled_by rs os
+filled_by (filled k m ∷ rs) os = filled_by rs (filled_at k m os)
 
 -- the marks of the accepted fillings of row k, together
-unfoldable pub marksFor : ℕ → List Reply → Object
-marksFor k [] = object 0 0
-marksFor k (agreed q ∷ rs) = marksFor k rs
-marksFor k (offered o ∷ rs) = marksFor k rs
-marksFor k (filled j m ∷ rs) = elim (eqb k j) [ true ↦ joined m (marksFor k rs) | false ↦ marksFor k rs ]
+unfoldable pub marks_for : ℕ → List Reply → Object
+marks_for k [] = object 0 0
+marks_for k (agreed q ∷ rs) = marks_for k rs
+marks_for k (offered o ∷ rs) = marks_for k rs
+marks_for k (filled j m ∷ rs) = elim (eqb k j) [ true ↦ joined m (marks_for k rs) | false ↦ marks_for k rs ]
 
 -- a reply that is no filling of row k
 abbrev pub FillsOther : ℕ → Reply → Type 0

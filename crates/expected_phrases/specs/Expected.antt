@@ -2,10 +2,10 @@
 -- mistake that the file looks like.
 use Rattle.std.specs.Prelude.{true, false, List, [], ◌∷◌, ◌++◌, ℕ, ◌-◌, eqb}
 use Prim.Native.String as string
-use Rattle.text.specs.Text.{numberText, space}
-use Rattle.refusal_words.specs.Words.{bytes, joined, lineNumber}
-use Rattle.table_header.specs.Header.{attributeCount}
-use Rattle.file_mistakes.specs.Mistakes.{looksLike, mistakePhrase}
+use Rattle.text.specs.Text.{number_text, space}
+use Rattle.refusal_words.specs.Words.{bytes, joined, line_number}
+use Rattle.table_header.specs.Header.{attribute_count}
+use Rattle.file_mistakes.specs.Mistakes.{looks_like, mistake_phrase}
 pub mod Laws
 pub mod Cases
 
@@ -27,15 +27,15 @@ phrases =
     )
 
 abbrev pub phrase : ℕ → List ℕ
-phrase number = lineNumber (number - 20) phrases
+phrase number = line_number (number - 20) phrases
 
 -- before the phrase of 27, how many marks a line has; behind the phrase of 22, the mistake
-abbrev pub marksText : List ℕ → ℕ → List ℕ
-marksText file number = elim (eqb number 27) [ true ↦ numberText (attributeCount file) ++ space | false ↦ [] ]
+abbrev pub marks_text : List ℕ → ℕ → List ℕ
+marks_text file number = elim (eqb number 27) [ true ↦ number_text (attribute_count file) ++ space | false ↦ [] ]
 
-abbrev pub mistakeText : List ℕ → ℕ → List ℕ
-mistakeText file number = elim (eqb number 22) [ true ↦ bytes "; " ++ mistakePhrase (looksLike file) | false ↦ [] ]
+abbrev pub mistake_text : List ℕ → ℕ → List ℕ
+mistake_text file number = elim (eqb number 22) [ true ↦ bytes "; " ++ mistake_phrase (looks_like file) | false ↦ [] ]
 
 -- the number of marks, the phrase, the mistake
-abbrev pub expectedText : List ℕ → ℕ → List ℕ
-expectedText file number = marksText file number ++ (phrase number ++ mistakeText file number)
+abbrev pub expected_text : List ℕ → ℕ → List ℕ
+expected_text file number = marks_text file number ++ (phrase number ++ mistake_text file number)

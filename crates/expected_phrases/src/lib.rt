@@ -2,7 +2,7 @@
 // for 22 the mistake that the file looks like.
 ghost use Rattle.std.specs.Prelude.{◌≡◌, ◌-◌};
 ghost use Rattle.text.specs.Page.{Puts};
-ghost use Rattle.expected_phrases.specs.Expected.{phrase, marksText, mistakeText, expectedText};
+ghost use Rattle.expected_phrases.specs.Expected.{phrase, marks_text, mistake_text, expected_text};
 
 // How far a number is above another; 0 where it is not.
 fn above(number: u64, other: u64) -> u64
@@ -38,7 +38,7 @@ marks out of X x . expected",
 
 // How many marks a line has, for 27.
 fn put_marks(out: &mut [u8], at: usize, file: &[u8], number: u64) -> usize
-    ensures { Puts out at result (marksText file.now number) }
+    ensures { Puts out at result (marks_text file.now number) }
 {
     if number == 27 {
         let counted = text::put_number(out, at, table_header::attribute_count(file) as u64);
@@ -49,7 +49,7 @@ fn put_marks(out: &mut [u8], at: usize, file: &[u8], number: u64) -> usize
 
 // The mistake that the file looks like, for 22.
 fn put_looks(out: &mut [u8], at: usize, file: &[u8], number: u64) -> usize
-    ensures { Puts out at result (mistakeText file.now number) }
+    ensures { Puts out at result (mistake_text file.now number) }
 {
     if number == 22 {
         let parted = text::put_bytes(out, at, b"; ");
@@ -60,7 +60,7 @@ fn put_looks(out: &mut [u8], at: usize, file: &[u8], number: u64) -> usize
 
 // What was expected, with all that is said of it.
 pub fn put_expectation(out: &mut [u8], at: usize, file: &[u8], number: u64) -> usize
-    ensures { Puts out at result (expectedText file.now number) }
+    ensures { Puts out at result (expected_text file.now number) }
 {
     let counted = put_marks(out, at, file, number);
     let expected = put_expected(out, counted, number);

@@ -1,7 +1,7 @@
 -- Which mistake a table file looks like whose first line is not `B` alone (refusal 22), by its first bytes: 1 to 5; and a
 -- phrase for each (the words are not 01's).
 use Rattle.std.specs.Prelude.{Bool, true, false, ◌&&◌, ◌||◌, List, [], ◌∷◌, ℕ, get_or, eqb}
-use Rattle.refusal_words.specs.Words.{joined, lineNumber}
+use Rattle.refusal_words.specs.Words.{joined, line_number}
 pub mod Laws
 pub mod Cases
 
@@ -10,33 +10,33 @@ abbrev pub are : ℕ → ℕ → ℕ → ℕ → Bool
 are a b x y = eqb a x && eqb b y
 
 -- a byte-order mark of UTF-8: EF BB BF
-abbrev pub isOrderMark : ℕ → ℕ → ℕ → Bool
-isOrderMark a b c = are a b 239 187 && eqb c 191
+abbrev pub is_order_mark : ℕ → ℕ → ℕ → Bool
+is_order_mark a b c = are a b 239 187 && eqb c 191
 
 -- a byte-order mark of UTF-16: FF FE or FE FF
 abbrev pub is_wide : ℕ → ℕ → Bool
 is_wide a b = are a b 255 254 || are a b 254 255
 
 -- `b`, and the end of its line
-abbrev pub isSmall : ℕ → ℕ → Bool
-isSmall a b = are a b 98 10 || (are a b 98 13 || are a b 98 0)
+abbrev pub is_small : ℕ → ℕ → Bool
+is_small a b = are a b 98 10 || (are a b 98 13 || are a b 98 0)
 
 -- the mistake of a file that begins with these bytes
-unfoldable pub mistakeOf : ℕ → ℕ → ℕ → ℕ
-mistakeOf a b c =
-    elim (isOrderMark a b c) [
+unfoldable pub mistake_of : ℕ → ℕ → ℕ → ℕ
+mistake_of a b c =
+    elim (is_order_mark a b c) [
       | true ↦ 2
-      | false ↦ elim (is_wide a b) [ true ↦ 3 | false ↦ elim (isSmall a b) [ true ↦ 4 | false ↦ 5 ] ]
+      | false ↦ elim (is_wide a b) [ true ↦ 3 | false ↦ elim (is_small a b) [ true ↦ 4 | false ↦ 5 ] ]
     ]
 
 -- 1 for an empty file; a byte past the end of the file counts as 0
-unfoldable pub looksLike : List ℕ → ℕ
-looksLike [] = 1
-looksLike (b ∷ bs) = mistakeOf b (get_or bs 0 0) (get_or bs 1 0)
+unfoldable pub looks_like : List ℕ → ℕ
+looks_like [] = 1
+looks_like (b ∷ bs) = mistake_of b (get_or bs 0 0) (get_or bs 1 0)
 
 -- what a mistake is, a phrase for each
-abbrev pub mistakePhrases : List ℕ
-mistakePhrases =
+abbrev pub mistake_phrases : List ℕ
+mistake_phrases =
     joined ""
     (
     "the file is empty" ∷
@@ -47,5 +47,5 @@ mistakePhrases =
     []
     )
 
-abbrev pub mistakePhrase : ℕ → List ℕ
-mistakePhrase mistake = lineNumber mistake mistakePhrases
+abbrev pub mistake_phrase : ℕ → List ℕ
+mistake_phrase mistake = line_number mistake mistake_phrases

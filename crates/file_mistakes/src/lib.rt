@@ -1,7 +1,7 @@
 // Which mistake a table file looks like whose first line is not `B` alone, and what the mistake is, in words.
 ghost use Rattle.std.specs.Prelude.{◌≡◌, get_or};
 ghost use Rattle.text.specs.Page.{Puts};
-ghost use Rattle.file_mistakes.specs.Mistakes.{are, isOrderMark, is_wide, isSmall, mistakeOf, looksLike, mistakePhrase};
+ghost use Rattle.file_mistakes.specs.Mistakes.{are, is_order_mark, is_wide, is_small, mistake_of, looks_like, mistake_phrase};
 
 // The byte at an offset; 0 past the end.
 pub fn byte_at(file: &[u8], i: usize) -> u8
@@ -25,7 +25,7 @@ fn are_bytes(a: u8, b: u8, x: u8, y: u8) -> bool
 
 // A byte-order mark of UTF-8.
 fn is_order_mark(a: u8, b: u8, c: u8) -> bool
-    ensures { result ≡ isOrderMark a b c }
+    ensures { result ≡ is_order_mark a b c }
 {
     if are_bytes(a, b, 0xEF, 0xBB) {
         return c == 0xBF;
@@ -45,7 +45,7 @@ fn is_wide(a: u8, b: u8) -> bool
 
 // `b`, and the end of its line.
 fn is_small(a: u8, b: u8) -> bool
-    ensures { result ≡ isSmall a b }
+    ensures { result ≡ is_small a b }
 {
     if are_bytes(a, b, b'b', b'\n') {
         return true;
@@ -58,7 +58,7 @@ fn is_small(a: u8, b: u8) -> bool
 
 // The mistake of a file that begins with these bytes.
 fn mistake_of(a: u8, b: u8, c: u8) -> u64
-    ensures { result ≡ mistakeOf a b c }
+    ensures { result ≡ mistake_of a b c }
 {
     if is_order_mark(a, b, c) {
         return 2;
@@ -74,7 +74,7 @@ fn mistake_of(a: u8, b: u8, c: u8) -> u64
 
 // Which mistake a file looks like whose first line is not `B` alone: 1 to 5.
 pub fn looks_like(file: &[u8]) -> u64
-    ensures { result ≡ looksLike file.now }
+    ensures { result ≡ looks_like file.now }
 {
     if file.len() == 0 {
         return 1;
@@ -84,7 +84,7 @@ pub fn looks_like(file: &[u8]) -> u64
 
 // What a mistake is; nothing for a number that no mistake has.
 pub fn put_mistake(out: &mut [u8], at: usize, mistake: u64) -> usize
-    ensures { Puts out at result (mistakePhrase mistake) }
+    ensures { Puts out at result (mistake_phrase mistake) }
 {
     refusal_words::put_line(
         out,

@@ -1,6 +1,6 @@
 // Whether an implication follows from those in force, and the closure under those in force and one more.
 ghost use Rattle.std.specs.Prelude.{◌≡◌};
-ghost use Rattle.implication.specs.Closure.{implication, inForce, inForceWith, closure, follows};
+ghost use Rattle.implication.specs.Closure.{implication, in_force, in_force_with, closure, follows};
 
 // Whether the implication from premise to conclusion follows from those in force.
 pub fn follows_from(
@@ -10,7 +10,7 @@ pub fn follows_from(
     premise: u64,
     conclusion: u64,
 ) -> bool
-    ensures { result ≡ follows (inForce background.now list.now count) (implication premise conclusion) }
+    ensures { result ≡ follows (in_force background.now list.now count) (implication premise conclusion) }
 {
     conclusion & closures::closure_of(background, list, count, premise) == conclusion
 }
@@ -24,7 +24,7 @@ pub fn closure_with(
     conclusion: u64,
     set: u64,
 ) -> u64
-    ensures { result ≡ closure (inForceWith background.now list.now count premise conclusion) set }
+    ensures { result ≡ closure (in_force_with background.now list.now count premise conclusion) set }
 {
     let mut s = set;
     loop {

@@ -19,18 +19,18 @@ same_numbers [] (n ∷ ns) = false
 same_numbers (m ∷ ms) [] = false
 same_numbers (m ∷ ms) (n ∷ ns) = eqb m n && same_numbers ms ns
 
-abbrev pub sameLayout : Layout → Layout → Bool
-sameLayout a b = same_numbers (fields_of a) (fields_of b)
+abbrev pub equal_layouts : Layout → Layout → Bool
+equal_layouts a b = same_numbers (fields_of a) (fields_of b)
 
-abbrev pub foundIn : Opened → Layout → Bool
-foundIn (Found x) l = sameLayout x l
-foundIn (Refused r) l = false
+abbrev pub found_in : Opened → Layout → Bool
+found_in (Found x) l = equal_layouts x l
+found_in (Refused r) l = false
 
 -- reading the file finds this layout
 abbrev pub finds : List ℕ → Layout → Bool
-finds file l = foundIn (opened_of file) l
+finds file l = found_in (opened_of file) l
 
 -- of an opened table: 3 where its layout is not the one that reading its file finds
-abbrev pub openedAs : Layout → Opened → Opened
-openedAs l (Found x) = elim (sameLayout x l) [ true ↦ Found x | false ↦ Refused (refusal 3 0) ]
-openedAs l (Refused r) = Refused r
+abbrev pub opened_as : Layout → Opened → Opened
+opened_as l (Found x) = elim (equal_layouts x l) [ true ↦ Found x | false ↦ Refused (refusal 3 0) ]
+opened_as l (Refused r) = Refused r

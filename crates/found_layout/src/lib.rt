@@ -2,13 +2,13 @@
 ghost use Rattle.std.specs.Prelude.{◌≡◌};
 ghost use Rattle.table_layout.specs.declared.Opened.TheVariants.{Found};
 ghost use Rattle.table_layout.specs.Layout.{opened_of};
-ghost use Rattle.found_layout.specs.Found.{sameLayout, finds, openedAs};
+ghost use Rattle.found_layout.specs.Found.{equal_layouts, finds, opened_as};
 
 use table_layout::{Layout, Opened};
 
 // The same counts and offsets.
 fn same_layout(a: Layout, b: Layout) -> bool
-    ensures { result ≡ sameLayout a b }
+    ensures { result ≡ equal_layouts a b }
 {
     if a.objects != b.objects {
         return false;
@@ -38,7 +38,7 @@ pub fn is_found(file: &[u8], layout: Layout) -> bool
 
 // A layout that reading a file found, where it has to be the same as another one: else 3.
 fn keep_same(found: Layout, layout: Layout) -> Opened
-    ensures { result ≡ openedAs layout (Found found) }
+    ensures { result ≡ opened_as layout (Found found) }
 {
     if same_layout(found, layout) {
         return Opened::Found(found);
@@ -48,7 +48,7 @@ fn keep_same(found: Layout, layout: Layout) -> Opened
 
 // Opens the file of an opened table: 3 comes after 21 to 28 for a layout that is not the one found.
 pub fn open_as(file: &[u8], layout: Layout) -> Opened
-    ensures { result ≡ openedAs layout (opened_of file.now) }
+    ensures { result ≡ opened_as layout (opened_of file.now) }
 {
     let opened = table_layout::open(file);
     match opened {

@@ -10,13 +10,13 @@ abbrev pub untold : Handed
 untold = record { bytes = 0; whole = true }
 
 -- a number of bytes fits into a word
-abbrev pub mostCounted : ℕ
-mostCounted = 18446744073709551615
+abbrev pub most_counted : ℕ
+most_counted = 18446744073709551615
 
 -- the part of a buffer of so many bytes between two offsets is handed over, and counted as far as a word counts; once a write has failed,
 -- none is
 pub record HandsOver (size from to : ℕ) (before after : Handed) : Type 0 where
-  pub on : before.whole ≡ true → from ≤ to → to ≤ size → before.bytes + (to - from) ≤ mostCounted → after.bytes ≡ before.bytes + (to - from)
+  pub on : before.whole ≡ true → from ≤ to → to ≤ size → before.bytes + (to - from) ≤ most_counted → after.bytes ≡ before.bytes + (to - from)
   pub ended : before.whole ≡ false → after ≡ before
 
 -- so many were handed over in all; where a write has failed, at most so many
@@ -27,7 +27,7 @@ pub record Hands (before : Handed) (bytes : ℕ) (after : Handed) : Type 0 where
 -- the call writes this text from the start of the buffer, and hands all of it over, where as many bytes as the buffer has can be counted
 abbrev pub Tells : Buffer → Handed → Told → List ℕ → Type 0
 Tells out before r bytes =
-    Puts out 0 r.end bytes × (before.bytes + length out.entry.now ≤ mostCounted → Hands before r.end r.handed)
+    Puts out 0 r.end bytes × (before.bytes + length out.entry.now ≤ most_counted → Hands before r.end r.handed)
 
 -- the text from the start of the buffer is this one, whole, with the bytes past it as they were, and from nothing on all of it is
 -- handed over

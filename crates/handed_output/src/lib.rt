@@ -1,7 +1,7 @@
 // The output handed over to be written, part by part as it becomes known. How many bytes went is counted, so that none goes twice and
 // none is left out.
 ghost use Rattle.std.specs.Prelude.{length};
-ghost use Rattle.closing_lines.specs.Closing.{refusalLine};
+ghost use Rattle.closing_lines.specs.Closing.{refusal_line};
 ghost use Rattle.handed_output.specs.Handing.{HandsOver, Tells};
 
 // The most bytes that can be counted.
@@ -49,7 +49,7 @@ pub fn hand_over(fd: i32, out: &[u8], from: usize, to: usize, before: Handed) ->
 
 // The refusal line, handed over.
 pub fn write_refusal(refusal: session::Refusal, out: &mut [u8], fd: i32, before: Handed) -> Told
-    ensures { Tells out before result (refusalLine refusal) }
+    ensures { Tells out before result (refusal_line refusal) }
 {
     let end = closing_lines::put_refusal(out, 0, refusal.number, refusal.place as u64);
     let handed = hand_over(fd, out, 0, end, before);

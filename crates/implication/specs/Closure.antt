@@ -13,20 +13,20 @@ abbrev pub implication : ℕ → ℕ → Implication ℕ
 implication p c = record { premise = p; conclusion = c }
 
 -- the first n implications of a flat slice
-abbrev pub implicationsOf : ℕ → List ℕ → List (Implication ℕ)
-implicationsOf n ws = pairs implication n ws
+abbrev pub implications_of : ℕ → List ℕ → List (Implication ℕ)
+implications_of n ws = pairs implication n ws
 
 -- all whole implications of a flat slice
-abbrev pub allImplications : List ℕ → List (Implication ℕ)
-allImplications ws = implicationsOf (length ws / 2) ws
+abbrev pub all_implications : List ℕ → List (Implication ℕ)
+all_implications ws = implications_of (length ws / 2) ws
 
 -- the implications in force (01: rules in force): the background slice, all of it in use, then the first n of the list
-abbrev pub inForce : List ℕ → List ℕ → ℕ → List (Implication ℕ)
-inForce background list n = allImplications background ++ implicationsOf n list
+abbrev pub in_force : List ℕ → List ℕ → ℕ → List (Implication ℕ)
+in_force background list n = all_implications background ++ implications_of n list
 
 -- and one more, from p to c
-abbrev pub inForceWith : List ℕ → List ℕ → ℕ → ℕ → ℕ → List (Implication ℕ)
-inForceWith background list n p c = inForce background list n ++ (implication p c ∷ [])
+abbrev pub in_force_with : List ℕ → List ℕ → ℕ → ℕ → ℕ → List (Implication ℕ)
+in_force_with background list n p c = in_force background list n ++ (implication p c ∷ [])
 
 -- s with the conclusion, where it contains the premise
 unfoldable pub fire : Implication ℕ → ℕ → ℕ

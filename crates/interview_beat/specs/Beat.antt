@@ -3,7 +3,7 @@ use Rattle.std.specs.Prelude.{ℕ, ◌*◌, ◌≤◌, length}
 use Rattle.machine.specs.Calls.{Words}
 use Rattle.text.specs.Page.{Buffer, Puts}
 use Rattle.transcript.specs.Output.{closing}
-use Rattle.transcript.specs.Core.{coreBeat}
+use Rattle.transcript.specs.Core.{core_beat}
 use Rattle.interview_replies.specs.declared.Interview.{Interview}
 use Rattle.interview_replies.specs.declared.Beaten.{Beaten}
 use Rattle.interview_replies.specs.Holding.{held, Beats}
@@ -17,4 +17,4 @@ WritesEnd i rows list out at r = i.rules * 2 ≤ length list.entry.now → Puts 
 -- the call is the whole beat
 abbrev pub Advances : ℕ → Words → Interview → Words → Words → Buffer → ℕ → Beaten → Type 0
 Advances objects table i rows list out at r =
-    Fitting i objects table rows list → Beats (coreBeat (tabled objects table) (held i rows list) i.changes) rows list out at r
+    Fitting i objects table rows list → Beats (core_beat (tabled objects table) (held i rows list) i.changes) rows list out at r

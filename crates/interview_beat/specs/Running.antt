@@ -4,21 +4,21 @@ use Rattle.std.proofs.Common.{sym, ap, ◌∙◌, arith, ltb-false}
 use Prim.Native.Nat.{ℕ, suc, ◌+◌, ◌*◌, ◌/◌, ◌^◌, ◌≤◌, ◌<◌}
 use Rattle.implication.specs.Pairs.Laws.{length_pairs}
 use Rattle.implication.specs.Closure.{implication}
-use Rattle.context.specs.Objects.{Object, object, objectsOf}
-use Rattle.session.specs.Limits.{mostAttributes}
+use Rattle.context.specs.Objects.{Object, object, objects_of}
+use Rattle.session.specs.Limits.{most_attributes}
 use Rattle.machine.specs.Checks.{State}
 use Rattle.machine.specs.Checks.Laws.{or-false}
 use Rattle.text.specs.Page.{Page, page, text}
 use Rattle.text.specs.Page.Laws.{text-append, text-inside, text-length}
 use Rattle.transcript.specs.Output.{Beat, more, last, beats, enough}
 use Rattle.transcript.specs.Output.Ends.{measure, measure-enough, beat-falls, beats-same}
-use Rattle.transcript.specs.Core.{coreBeat}
+use Rattle.transcript.specs.Core.{core_beat}
 use Rattle.transcript.specs.Core.Along.{Along}
 use Rattle.transcript.specs.Core.Beats.{core-beat}
 use Rattle.transcript.specs.Core.Kept.{core-along}
 use Rattle.interview_replies.specs.declared.Interview.{Interview}
 use Rattle.interview_replies.specs.declared.Beaten.{Beaten}
-use Rattle.interview_replies.specs.Holding.{holding, lineWritten, going, Leaves}
+use Rattle.interview_replies.specs.Holding.{holding, line_written, going, Leaves}
 use Rattle.table_replies.specs.Reply.{Fits}
 
 -- all that the interview still writes
@@ -28,11 +28,11 @@ remaining table s changes = beats (enough s) table s changes
 -- ---- what remains, after one beat
 
 module _ (table : List Object) (s : State) (changes : ℕ) (h : Along table s changes) where
-  pub remaining-last : (line : List ℕ) → coreBeat table s changes ≡ last line → remaining table s changes ≡ line
+  pub remaining-last : (line : List ℕ) → core_beat table s changes ≡ last line → remaining table s changes ≡ line
   unfolding beats
   remaining-last line e = rw (beats, core-beat table s changes h ∙ e)
 
-  module _ (line : List ℕ) (s' : State) (changes' : ℕ) (e : coreBeat table s changes ≡ more line s' changes') where
+  module _ (line : List ℕ) (s' : State) (changes' : ℕ) (e : core_beat table s changes ≡ more line s' changes') where
     pub falls : measure s' < measure s
     falls = (beat-falls table s changes h.reached line s' changes' (core-beat table s changes h ∙ e)).less
 
@@ -51,17 +51,17 @@ pub record Running (table : List Object) (whole start : List ℕ) (i : Interview
   pub told : text (page start 0) whole ≡ text (page out at) (remaining table (holding i rows list) i.changes)
   pub within : at ≤ length out
 
-module _ (objects : ℕ) (table : List ℕ) (i : Interview) (rows list : List ℕ) (h : Along (objectsOf objects table) (holding i rows list) i.changes) where
+module _ (objects : ℕ) (table : List ℕ) (i : Interview) (rows list : List ℕ) (h : Along (objects_of objects table) (holding i rows list) i.changes) where
   pub along-fits : objects * 2 ≤ length table → Fits i objects table rows list
   along-fits w = record {
-    attributes = ltb-false mostAttributes i.n (or-false (eqb i.n 0) _ h.attributes).1;
+    attributes = ltb-false most_attributes i.n (or-false (eqb i.n 0) _ h.attributes).1;
     in_table = w;
-    in_rows = omega (arith, h.row-places, length_pairs object i.rows rows);
-    in_list = omega (arith, h.list-places, length_pairs implication i.rules list);
+    in_rows = omega (arith, h.row_places, length_pairs object i.rows rows);
+    in_list = omega (arith, h.list_places, length_pairs implication i.rules list);
   }
 
   pub running-start : (out : List ℕ)
-      → Running (objectsOf objects table) (remaining (objectsOf objects table) (holding i rows list) i.changes) out i rows list out 0
+      → Running (objects_of objects table) (remaining (objects_of objects table) (holding i rows list) i.changes) out i rows list out 0
   running-start out = record { along = h; told = refl; within = omega arith }
 
 -- what a beat of the loop comes to: its line lies in the buffer; the last one has told all, and any other comes nearer to the end
@@ -74,38 +74,38 @@ pub record Turned (table : List Object) (whole start : List ℕ) (i : Interview)
 
 module _ (table : List Object) (whole start : List ℕ) (i : Interview) (rows list out : List ℕ) (at : ℕ)
     (h : Running table whole start i rows list out at) (r : Beaten) (rows' list' out' : List ℕ)
-    (b : Leaves (coreBeat table (holding i rows list) i.changes) r rows' list' (page out at) (page out' r.at)) where
+    (b : Leaves (core_beat table (holding i rows list) i.changes) r rows' list' (page out at) (page out' r.at)) where
   abbrev core : Beat
-  core = coreBeat table (holding i rows list) i.changes
+  core = core_beat table (holding i rows list) i.changes
 
   written-within : (at ≤ r.at) × (r.at ≤ length out')
   written-within =
       let p = page out at in
-      let w = text-inside p (lineWritten core) h.within in
-      let e : r.at ≡ (text p (lineWritten core)).at = ap (λ (q : Page). q.at) b.line in
-      let l : length out' ≡ length out = ap (λ (q : Page). length q.bytes) b.line ∙ text-length p (lineWritten core) in
+      let w = text-inside p (line_written core) h.within in
+      let e : r.at ≡ (text p (line_written core)).at = ap (λ (q : Page). q.at) b.line in
+      let l : length out' ≡ length out = ap (λ (q : Page). length q.bytes) b.line ∙ text-length p (line_written core) in
       (omega (arith, w.0, e), omega (arith, w.1, e, l))
 
-  is_last : r.last ≡ true → core ≡ last (lineWritten core)
-  is_last e = sym b.state ∙ ap (λ x. going x (lineWritten core) (holding r.interview rows' list') r.interview.changes) e
+  is_last : r.last ≡ true → core ≡ last (line_written core)
+  is_last e = sym b.state ∙ ap (λ x. going x (line_written core) (holding r.interview rows' list') r.interview.changes) e
 
-  is-more : r.last ≡ false → core ≡ more (lineWritten core) (holding r.interview rows' list') r.interview.changes
-  is-more e = sym b.state ∙ ap (λ x. going x (lineWritten core) (holding r.interview rows' list') r.interview.changes) e
+  is-more : r.last ≡ false → core ≡ more (line_written core) (holding r.interview rows' list') r.interview.changes
+  is-more e = sym b.state ∙ ap (λ x. going x (line_written core) (holding r.interview rows' list') r.interview.changes) e
 
   running-last : r.last ≡ true → page out' r.at ≡ text (page start 0) whole
   running-last e =
       b.line
-      ∙ sym (ap (λ l. text (page out at) l) (remaining-last table (holding i rows list) i.changes h.along (lineWritten core) (is_last e))) ∙ sym h.told
+      ∙ sym (ap (λ l. text (page out at) l) (remaining-last table (holding i rows list) i.changes h.along (line_written core) (is_last e))) ∙ sym h.told
 
   running-less : r.last ≡ false → measure (holding r.interview rows' list') < measure (holding i rows list)
-  running-less e = falls table (holding i rows list) i.changes h.along (lineWritten core) _ r.interview.changes (is-more e)
+  running-less e = falls table (holding i rows list) i.changes h.along (line_written core) _ r.interview.changes (is-more e)
 
   running-on : r.last ≡ false → Running table whole start r.interview rows' list' out' r.at
   running-on e = record {
-    along = core-along table (holding i rows list) i.changes h.along (lineWritten core) _ _ (is-more e);
+    along = core-along table (holding i rows list) i.changes h.along (line_written core) _ _ (is-more e);
     told = h.told
-        ∙ ap (λ l. text (page out at) l) (remaining-more table (holding i rows list) i.changes h.along (lineWritten core) _ _ (is-more e))
-        ∙ text-append (page out at) (lineWritten core) _
+        ∙ ap (λ l. text (page out at) l) (remaining-more table (holding i rows list) i.changes h.along (line_written core) _ _ (is-more e))
+        ∙ text-append (page out at) (line_written core) _
         ∙ ap (λ p. text p (remaining table (holding r.interview rows' list') r.interview.changes)) (sym b.line);
     within = written-within.1;
   }

@@ -1,6 +1,6 @@
 // No to the question of an interview (01: the program), below the checks: the Q line, and the row in its place.
 ghost use Rattle.context.specs.Objects.{object};
-ghost use Rattle.interview_replies.specs.Holding.{Beats, noBeat};
+ghost use Rattle.interview_replies.specs.Holding.{Beats, no_beat};
 
 use interview_replies::{Beaten, Interview};
 
@@ -16,7 +16,7 @@ pub fn say_no(
     out: &mut [u8],
     at: usize,
 ) -> Beaten
-    ensures { Beats (noBeat interview rows list conclusion number (object yes no)) rows list out at result }
+    ensures { Beats (no_beat interview rows list conclusion number (object yes no)) rows list out at result }
 {
     let used = interview.rows;
     let n = interview.n;

@@ -7,7 +7,7 @@ use Rattle.machine.specs.Checks.{State}
 use Rattle.machine.specs.Calls.{state_of, Words}
 use Rattle.text.specs.Page.{Page, page, text, Buffer}
 use Rattle.transcript.specs.Output.{Beat, more, last}
-use Rattle.transcript.specs.Core.{coreNo, coreYes}
+use Rattle.transcript.specs.Core.{core_no, core_yes}
 use Rattle.interview_replies.specs.declared.Interview.{Interview}
 use Rattle.interview_replies.specs.declared.Beaten.{Beaten}
 pub mod Laws
@@ -25,22 +25,22 @@ held i rows list = holding i rows.entry.now list.entry.now
 -- ---- what a beat leaves
 
 -- what a beat writes
-abbrev pub lineWritten : Beat → List ℕ
-lineWritten (more line s changes) = line
-lineWritten (last line) = line
+abbrev pub line_written : Beat → List ℕ
+line_written (more line s changes) = line
+line_written (last line) = line
 
 -- a beat that writes this line and goes on, or is the last
 abbrev pub going : Bool → List ℕ → State → ℕ → Beat
 going true line s changes = last line
 going false line s changes = more line s changes
 
-abbrev pub beatOf : Beaten → List ℕ → List ℕ → List ℕ → Beat
-beatOf b line rows list = going b.last line (holding b.interview rows list) b.interview.changes
+abbrev pub beat_of : Beaten → List ℕ → List ℕ → List ℕ → Beat
+beat_of b line rows list = going b.last line (holding b.interview rows list) b.interview.changes
 
 -- the record and the words hold what this beat goes on with, and its line is written
 pub record Leaves (b : Beat) (r : Beaten) (rows list : List ℕ) (before after : Page) : Type 0 where
-  pub state : beatOf r (lineWritten b) rows list ≡ b
-  pub line : after ≡ text before (lineWritten b)
+  pub state : beat_of r (line_written b) rows list ≡ b
+  pub line : after ≡ text before (line_written b)
 
 -- the call is this beat: what it leaves in the record, the words of rows and list, and the buffer from the offset `at` on
 abbrev pub Beats : Beat → Words → Words → Buffer → ℕ → Beaten → Type 0
@@ -49,9 +49,9 @@ Beats b rows list out at r = Leaves b r rows.exit.now list.exit.now (page out.en
 -- ---- the replies
 
 -- no to the question from the current set to this conclusion, with a row of the table and its number
-abbrev pub noBeat : Interview → Words → Words → ℕ → ℕ → Object → Beat
-noBeat i rows list conclusion number o = coreNo (held i rows list) i.changes (implication i.current conclusion) number o
+abbrev pub no_beat : Interview → Words → Words → ℕ → ℕ → Object → Beat
+no_beat i rows list conclusion number o = core_no (held i rows list) i.changes (implication i.current conclusion) number o
 
 -- yes to it
-abbrev pub yesBeat : Interview → Words → Words → ℕ → Beat
-yesBeat i rows list conclusion = coreYes (held i rows list) i.changes (implication i.current conclusion)
+abbrev pub yes_beat : Interview → Words → Words → ℕ → Beat
+yes_beat i rows list conclusion = core_yes (held i rows list) i.changes (implication i.current conclusion)

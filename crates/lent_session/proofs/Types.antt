@@ -21,19 +21,19 @@ abbrev pub session : Lendable
 session = record { type = T.the_type; laws = T'.the_laws; plain = T'.the_plain; copies = T'.the_copy; lowers = T'.lowers }
 
 abbrev pub step : Enumerated
-step = record { type = Step.the_type; plain = Step'.the_plain; as-field = Step'.the_field_laws }
+step = record { type = Step.the_type; plain = Step'.the_plain; as_field = Step'.the_field_laws }
 
 abbrev pub reply : Enumerated
-reply = record { type = Reply.the_type; plain = Reply'.the_plain; as-field = Reply'.the_field_laws }
+reply = record { type = Reply.the_type; plain = Reply'.the_plain; as_field = Reply'.the_field_laws }
 
 abbrev pub following : Enumerated
-following = record { type = Following.the_type; plain = Following'.the_plain; as-field = Following'.the_field_laws }
+following = record { type = Following.the_type; plain = Following'.the_plain; as_field = Following'.the_field_laws }
 
 abbrev pub refuting : Enumerated
-refuting = record { type = Refuting.the_type; plain = Refuting'.the_plain; as-field = Refuting'.the_field_laws }
+refuting = record { type = Refuting.the_type; plain = Refuting'.the_plain; as_field = Refuting'.the_field_laws }
 
 abbrev pub testing : Enumerated
-testing = record { type = Testing.the_type; plain = Testing'.the_plain; as-field = Testing'.the_field_laws }
+testing = record { type = Testing.the_type; plain = Testing'.the_plain; as_field = Testing'.the_field_laws }
 
 abbrev pub stepped : TurnedEnum step session
 stepped = record {

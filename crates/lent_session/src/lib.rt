@@ -4,10 +4,10 @@ ghost use Rattle.implication.specs.Closure.{implication};
 ghost use Rattle.context.specs.Objects.{object};
 ghost use Rattle.machine.specs.Machine.{step as stepping, accept as accepting, reject as rejecting, follow, refute, test, file, fill};
 ghost use Rattle.machine.specs.Calls.{PerformsOn};
-ghost use Rattle.session_steps.specs.Answers.{stepAnswer};
-ghost use Rattle.session_queries.specs.Answers.{followingAnswer, refutingAnswer};
-ghost use Rattle.session_replies.specs.Answers.{replyAnswer};
-ghost use Rattle.session_test.specs.Answers.{testingAnswer};
+ghost use Rattle.session_steps.specs.Answers.{step_answer};
+ghost use Rattle.session_queries.specs.Answers.{following_answer, refuting_answer};
+ghost use Rattle.session_replies.specs.Answers.{reply_answer};
+ghost use Rattle.session_test.specs.Answers.{testing_answer};
 
 // Finished at M; the standing question; or a move to the next closed set.
 pub fn step(
@@ -16,7 +16,7 @@ pub fn step(
     list: &[u64],
     background: &[u64],
 ) -> session_steps::Step
-    ensures { PerformsOn stepping session rows list background (stepAnswer result) }
+    ensures { PerformsOn stepping session rows list background (step_answer result) }
 {
     let held = *session;
     let turn = session_steps::make_step(held, rows, list, background);
@@ -33,7 +33,7 @@ pub fn accept(
     list: &mut [u64],
     background: &[u64],
 ) -> session_replies::Reply
-    ensures { PerformsOn accepting session rows list background (replyAnswer result) }
+    ensures { PerformsOn accepting session rows list background (reply_answer result) }
 {
     let held = *session;
     let turn = session_yes::accept(held, rows, list, background);
@@ -52,7 +52,7 @@ pub fn reject(
     yes: u64,
     no: u64,
 ) -> session_replies::Reply
-    ensures { PerformsOn (rejecting (object yes no)) session rows list background (replyAnswer result) }
+    ensures { PerformsOn (rejecting (object yes no)) session rows list background (reply_answer result) }
 {
     let held = *session;
     let turn = session_no::reject(held, rows, list, background, yes, no);
@@ -71,7 +71,7 @@ pub fn follows(
     premise: u64,
     conclusion: u64,
 ) -> session_queries::Following
-    ensures { PerformsOn (follow (implication premise conclusion)) session rows list background (followingAnswer result) }
+    ensures { PerformsOn (follow (implication premise conclusion)) session rows list background (following_answer result) }
 {
     session_queries::follows(*session, rows, list, background, premise, conclusion)
 }
@@ -85,7 +85,7 @@ pub fn refuted(
     premise: u64,
     conclusion: u64,
 ) -> session_queries::Refuting
-    ensures { PerformsOn (refute (implication premise conclusion)) session rows list background (refutingAnswer result) }
+    ensures { PerformsOn (refute (implication premise conclusion)) session rows list background (refuting_answer result) }
 {
     session_queries::refuted(*session, rows, list, background, premise, conclusion)
 }
@@ -99,7 +99,7 @@ pub fn test_row(
     yes: u64,
     no: u64,
 ) -> session_test::Testing
-    ensures { PerformsOn (test (object yes no)) session rows list background (testingAnswer result) }
+    ensures { PerformsOn (test (object yes no)) session rows list background (testing_answer result) }
 {
     session_test::test_row(*session, rows, list, background, yes, no)
 }
@@ -113,7 +113,7 @@ pub fn file_row(
     yes: u64,
     no: u64,
 ) -> session_replies::Reply
-    ensures { PerformsOn (file (object yes no)) session rows list background (replyAnswer result) }
+    ensures { PerformsOn (file (object yes no)) session rows list background (reply_answer result) }
 {
     let held = *session;
     let turn = session_filing::file_row(held, rows, list, background, yes, no);
@@ -133,7 +133,7 @@ pub fn fill_row(
     yes: u64,
     no: u64,
 ) -> session_replies::Reply
-    ensures { PerformsOn (fill row (object yes no)) session rows list background (replyAnswer result) }
+    ensures { PerformsOn (fill row (object yes no)) session rows list background (reply_answer result) }
 {
     session_late_marks::fill_row(*session, rows, list, background, row, yes, no)
 }

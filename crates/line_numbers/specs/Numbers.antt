@@ -4,11 +4,11 @@ use Rattle.table_lines.specs.Lines.{after}
 pub mod Laws
 
 -- how many lines, from the one at an offset on and at most k, end before a place
-unfoldable pub endedBefore : ℕ → List ℕ → ℕ → ℕ → ℕ
-endedBefore zero file place at = 0
-endedBefore (suc k) file place at =
-    elim (ltb at (length file) && leb (after file at) place) [ true ↦ suc (endedBefore k file place (after file at)) | false ↦ 0 ]
+unfoldable pub ended_before : ℕ → List ℕ → ℕ → ℕ → ℕ
+ended_before zero file place at = 0
+ended_before (suc k) file place at =
+    elim (ltb at (length file) && leb (after file at) place) [ true ↦ suc (ended_before k file place (after file at)) | false ↦ 0 ]
 
 -- the number of the line that an offset lies in, the first being 1; the end of the file lies in the line that is missing there
-abbrev pub numberOfLine : List ℕ → ℕ → ℕ
-numberOfLine file place = suc (endedBefore (length file) file place 0)
+abbrev pub number_of_line : List ℕ → ℕ → ℕ
+number_of_line file place = suc (ended_before (length file) file place 0)

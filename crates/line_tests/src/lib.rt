@@ -1,13 +1,13 @@
 // The tests of one line of a table file: the letter, a count, a name, marks, and the number of a line that does not pass.
 ghost use Rattle.std.specs.Prelude.{◌≡◌};
-ghost use Rattle.line_tests.specs.Tests.{refuseUnless, countFault, isLetter, isName, isMarks};
+ghost use Rattle.line_tests.specs.Tests.{refuse_unless, count_fault, is_letter, is_name, is_marks};
 
 // The most bytes of a title or a name.
 pub const NAME_BYTES: usize = 80;
 
 // The number of a line that is not fine; 0 of one that is.
 pub fn refuse_unless(fine: bool, number: u64) -> u64
-    ensures { result ≡ refuseUnless fine number }
+    ensures { result ≡ refuse_unless fine number }
 {
     if fine {
         return 0;
@@ -17,7 +17,7 @@ pub fn refuse_unless(fine: bool, number: u64) -> u64
 
 // 23 for a line that is no count, 24 for a count that is not from least to most.
 pub fn count_fault(line: &[u8], least: usize, most: usize) -> u64
-    ensures { result ≡ countFault least most line.now }
+    ensures { result ≡ count_fault least most line.now }
 {
     if !table_counts::is_count(line) {
         return 23;
@@ -31,7 +31,7 @@ pub fn count_fault(line: &[u8], least: usize, most: usize) -> u64
 
 // The line is the letter B.
 pub fn is_letter(line: &[u8]) -> bool
-    ensures { result ≡ isLetter line.now }
+    ensures { result ≡ is_letter line.now }
 {
     if line.len() != 1 {
         return false;
@@ -41,14 +41,14 @@ pub fn is_letter(line: &[u8]) -> bool
 
 // The line is a name: not empty, and not too long.
 pub fn is_name(line: &[u8]) -> bool
-    ensures { result ≡ isName line.now }
+    ensures { result ≡ is_name line.now }
 {
     0 < line.len() && line.len() <= NAME_BYTES
 }
 
 // The line is n marks.
 pub fn is_marks(line: &[u8], n: usize) -> bool
-    ensures { result ≡ isMarks n line.now }
+    ensures { result ≡ is_marks n line.now }
 {
     line.len() == n && line_bytes::all_pass(line, table_bytes::ByteKind::Mark)
 }

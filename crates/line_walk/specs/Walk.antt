@@ -11,11 +11,11 @@ use Rattle.line_faults.specs.Faults.{fault}
 pub mod Laws
 
 -- a line exists if the file has a byte at its start
-unfoldable pub lineFault : Kind → List ℕ → ℕ → ℕ
-lineFault k file at = elim (ltb at (length file)) [ true ↦ fault k (bytes_at file at) | false ↦ absent k ]
+unfoldable pub line_fault : Kind → List ℕ → ℕ → ℕ
+line_fault k file at = elim (ltb at (length file)) [ true ↦ fault k (bytes_at file at) | false ↦ absent k ]
 
 -- lines in order: the first that is refused, or where they end
 unfoldable pub walk : List Kind → List ℕ → ℕ → Walk
 walk [] file at = At at
 walk (k ∷ ks) file at =
-    elim (eqb (lineFault k file at) 0) [ true ↦ walk ks file (after file at) | false ↦ Failed (refusal (lineFault k file at) at) ]
+    elim (eqb (line_fault k file at) 0) [ true ↦ walk ks file (after file at) | false ↦ Failed (refusal (line_fault k file at) at) ]

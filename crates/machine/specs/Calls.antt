@@ -5,9 +5,9 @@ use Rattle.std.specs.Prelude.{◌≡◌, Bool, true, false, List, ℕ, ◌+◌, 
 use denote.Triple.Both.{Both}
 use Rattle.std.specs.Borrow.{Bor}
 use Rattle.session.specs.declared.Session.{Session}
-use Rattle.implication.specs.Closure.{implicationsOf, allImplications}
-use Rattle.context.specs.Objects.{objectsOf}
-use Rattle.context.specs.Filling.{joined, objectAt}
+use Rattle.implication.specs.Closure.{implications_of, all_implications}
+use Rattle.context.specs.Objects.{objects_of}
+use Rattle.context.specs.Filling.{joined, object_at}
 pub use Rattle.context.specs.Parts.{Words}
 use Rattle.machine.specs.Checks.{State, question}
 use Rattle.machine.specs.Machine.{Call, step, accept, reject, follow, refute, test, file, fill, Answer, finished, moved, asked, taken, followed, refuted, unrefuted, refuting, refused, perform, Opening, opening}
@@ -20,9 +20,9 @@ abbrev pub state_of : Session → List ℕ → List ℕ → List ℕ → State
 state_of s rows list background = record {
   n = s.n;
   lent = record { rows = length rows; list = length list; background = length background };
-  background = allImplications background;
-  rows = objectsOf s.rows rows;
-  list = implicationsOf s.rules list;
+  background = all_implications background;
+  rows = objects_of s.rows rows;
+  list = implications_of s.rules list;
   current = s.current;
 }
 
@@ -52,30 +52,30 @@ put_pair (refused r) k a b ws = ws
 abbrev pub rows_by : Call → Answer → State → List ℕ → List ℕ
 rows_by step a s ws = ws
 rows_by accept a s ws = ws
-rows_by (reject o) a s ws = put_pair a (length s.rows) o.yes-marks o.no-marks ws
+rows_by (reject o) a s ws = put_pair a (length s.rows) o.yes_marks o.no_marks ws
 rows_by (follow r) a s ws = ws
 rows_by (refute r) a s ws = ws
 rows_by (test o) a s ws = ws
-rows_by (file o) a s ws = put_pair a (length s.rows) o.yes-marks o.no-marks ws
-rows_by (fill k m) a s ws = put_pair a k (joined (objectAt s.rows k) m).yes-marks (joined (objectAt s.rows k) m).no-marks ws
+rows_by (file o) a s ws = put_pair a (length s.rows) o.yes_marks o.no_marks ws
+rows_by (fill k m) a s ws = put_pair a k (joined (object_at s.rows k) m).yes_marks (joined (object_at s.rows k) m).no_marks ws
 
 -- the list words after it: a yes writes the question
-abbrev pub listBy : Call → Answer → State → List ℕ → List ℕ
-listBy step a s ws = ws
-listBy accept a s ws = put_pair a (length s.list) (question s).premise (question s).conclusion ws
-listBy (reject o) a s ws = ws
-listBy (follow r) a s ws = ws
-listBy (refute r) a s ws = ws
-listBy (test o) a s ws = ws
-listBy (file o) a s ws = ws
-listBy (fill k m) a s ws = ws
+abbrev pub list_by : Call → Answer → State → List ℕ → List ℕ
+list_by step a s ws = ws
+list_by accept a s ws = put_pair a (length s.list) (question s).premise (question s).conclusion ws
+list_by (reject o) a s ws = ws
+list_by (follow r) a s ws = ws
+list_by (refute r) a s ws = ws
+list_by (test o) a s ws = ws
+list_by (file o) a s ws = ws
+list_by (fill k m) a s ws = ws
 
 -- after a call of the plain machine
-abbrev pub rowsAfter : Call → State → List ℕ → List ℕ
-rowsAfter c s ws = rows_by c (perform s c).answer s ws
+abbrev pub rows_after : Call → State → List ℕ → List ℕ
+rows_after c s ws = rows_by c (perform s c).answer s ws
 
-abbrev pub listAfter : Call → State → List ℕ → List ℕ
-listAfter c s ws = listBy c (perform s c).answer s ws
+abbrev pub list_after : Call → State → List ℕ → List ℕ
+list_after c s ws = list_by c (perform s c).answer s ws
 
 -- ---- what a call promises
 
@@ -84,8 +84,8 @@ listAfter c s ws = listBy c (perform s c).answer s ws
 pub record MadeFrom {X : Type 0} (says : Answer → X) (c : Call) (s : Session) (rows list background : List ℕ) (x : X) (after : Session) (rows' list' : List ℕ) : Type 0 where
   pub answer : x ≡ says (perform (state_of s rows list background) c).answer
   pub state : state_of after rows' list' background ≡ (perform (state_of s rows list background) c).after
-  pub rows_written : rows' ≡ rowsAfter c (state_of s rows list background) rows
-  pub list_written : list' ≡ listAfter c (state_of s rows list background) list
+  pub rows_written : rows' ≡ rows_after c (state_of s rows list background) rows
+  pub list_written : list' ≡ list_after c (state_of s rows list background) list
 
 abbrev pub Made : {X : Type 0} → (Answer → X) → Call → Session → Words → Words → Words → X → Session → Type 0
 Made says c s rows list background x after =
@@ -125,7 +125,7 @@ abbrev pub PerformsOn : Call → Record → Words → Words → Words → Answer
 PerformsOn c session rows list background x = Performs c session.entry.now rows list background x session.exit.now
 
 -- what the plain machine opens with: n, so many rows in use, and the lent words
-abbrev pub openingFrom : ℕ → ℕ → List ℕ → List ℕ → List ℕ → Opening
-openingFrom n used rows list background =
+abbrev pub opening_from : ℕ → ℕ → List ℕ → List ℕ → List ℕ → Opening
+opening_from n used rows list background =
     opening n (record { rows = length rows; list = length list; background = length background })
-    (allImplications background) (objectsOf used rows)
+    (all_implications background) (objects_of used rows)

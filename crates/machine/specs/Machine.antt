@@ -5,10 +5,10 @@ use Rattle.std.proofs.Math.Option.{none, some}
 use Rattle.theory.specs.Implications.{Implication}
 use Rattle.implication.specs.Closure.{closure, follows}
 use Rattle.next_set.specs.Next.{next}
-use Rattle.context.specs.Objects.{Object, firstRefuting}
-use Rattle.context.specs.Filling.{filledAt}
+use Rattle.context.specs.Objects.{Object, first_refuting}
+use Rattle.context.specs.Filling.{filled_at}
 use Rattle.session.specs.declared.Refusal.{Refusal}
-use Rattle.machine.specs.Checks.{Lent, State, Check, firstFailing, sessionChecks, yesChecks, testChecks, filingChecks, fillChecks, noChecks, force, whole, tight, open-question, standing, question}
+use Rattle.machine.specs.Checks.{Lent, State, Check, first_failing, session_checks, yes_checks, test_checks, filing_checks, fill_checks, no_checks, force, whole, tight, open-question, standing, question}
 pub mod Laws
 
 -- the calls of a session, with any arguments
@@ -53,12 +53,12 @@ turn a s = record { answer = a; after = s }
 
 -- ---- states
 
-abbrev pub moveTo : State → ℕ → State
-moveTo s p = record { n = s.n; lent = s.lent; background = s.background; rows = s.rows; list = s.list; current = p }
+abbrev pub move_to : State → ℕ → State
+move_to s p = record { n = s.n; lent = s.lent; background = s.background; rows = s.rows; list = s.list; current = p }
 
 -- a move: the next set under the implications in force
-abbrev pub afterMove : State → State
-afterMove s = moveTo s (next (force s) s.n s.current)
+abbrev pub after_move : State → State
+after_move s = move_to s (next (force s) s.n s.current)
 
 -- an implication more in the list, and the next set under the implications then in force
 abbrev pub agreeing : State → Implication ℕ → State
@@ -72,56 +72,56 @@ agreeing s q = record {
 }
 
 -- a yes: the question in the list
-abbrev pub afterYes : State → State
-afterYes s = agreeing s (question s)
+abbrev pub after_yes : State → State
+after_yes s = agreeing s (question s)
 
 -- a filing, and so a no: one row more
-abbrev pub afterFiling : State → Object → State
-afterFiling s o = record { n = s.n; lent = s.lent; background = s.background; rows = s.rows ++ (o ∷ []); list = s.list; current = s.current }
+abbrev pub after_filing : State → Object → State
+after_filing s o = record { n = s.n; lent = s.lent; background = s.background; rows = s.rows ++ (o ∷ []); list = s.list; current = s.current }
 
 -- a filling: row k with the marks added
-abbrev pub afterFill : State → ℕ → Object → State
-afterFill s k m = record { n = s.n; lent = s.lent; background = s.background; rows = filledAt k m s.rows; list = s.list; current = s.current }
+abbrev pub after_fill : State → ℕ → Object → State
+after_fill s k m = record { n = s.n; lent = s.lent; background = s.background; rows = filled_at k m s.rows; list = s.list; current = s.current }
 
 -- ---- what an accepted call does
 
 -- at M: Finished. Where the reach differs: Asked. Else the next set.
-unfoldable pub performStep : State → Turn
-performStep s =
+unfoldable pub perform_step : State → Turn
+perform_step s =
     elim (standing s) [
       | whole ↦ turn finished s
-      | tight ↦ turn moved (afterMove s)
+      | tight ↦ turn moved (after_move s)
       | open-question ↦ turn (asked (question s)) s
     ]
 
 -- the first row that refutes, where there is one
-unfoldable pub refutedAt : ℕ → ℕ → Answer
-refutedAt place rows = elim (ltb place rows) [ true ↦ refuted place | false ↦ unrefuted ]
+unfoldable pub refuted_at : ℕ → ℕ → Answer
+refuted_at place rows = elim (ltb place rows) [ true ↦ refuted place | false ↦ unrefuted ]
 
 unfoldable pub performed : State → Call → Turn
-performed s step = performStep s
-performed s accept = turn taken (afterYes s)
-performed s (reject o) = turn taken (afterFiling s o)
+performed s step = perform_step s
+performed s accept = turn taken (after_yes s)
+performed s (reject o) = turn taken (after_filing s o)
 performed s (follow r) = turn (followed (follows (force s) r)) s
-performed s (refute r) = turn (refutedAt (firstRefuting (force s) s.rows r) (length s.rows)) s
+performed s (refute r) = turn (refuted_at (first_refuting (force s) s.rows r) (length s.rows)) s
 performed s (test o) = turn refuting s
-performed s (file o) = turn taken (afterFiling s o)
-performed s (fill k m) = turn taken (afterFill s k m)
+performed s (file o) = turn taken (after_filing s o)
+performed s (fill k m) = turn taken (after_fill s k m)
 
 -- ---- a call, with its checks
 
-unfoldable pub checksOf : State → Call → List Check
-checksOf s step = sessionChecks s []
-checksOf s accept = sessionChecks s [] ++ yesChecks s
-checksOf s (reject o) = sessionChecks s [] ++ noChecks s o
-checksOf s (follow r) = sessionChecks s (r ∷ [])
-checksOf s (refute r) = sessionChecks s (r ∷ [])
-checksOf s (test o) = sessionChecks s [] ++ testChecks s o
-checksOf s (file o) = sessionChecks s [] ++ filingChecks s o
-checksOf s (fill k m) = sessionChecks s [] ++ fillChecks s k m
+unfoldable pub checks_of : State → Call → List Check
+checks_of s step = session_checks s []
+checks_of s accept = session_checks s [] ++ yes_checks s
+checks_of s (reject o) = session_checks s [] ++ no_checks s o
+checks_of s (follow r) = session_checks s (r ∷ [])
+checks_of s (refute r) = session_checks s (r ∷ [])
+checks_of s (test o) = session_checks s [] ++ test_checks s o
+checks_of s (file o) = session_checks s [] ++ filing_checks s o
+checks_of s (fill k m) = session_checks s [] ++ fill_checks s k m
 
 unfoldable pub perform : State → Call → Turn
-perform s c = elim (firstFailing (checksOf s c)) [ none ↦ performed s c | some r ↦ turn (refused r) s ]
+perform s c = elim (first_failing (checks_of s c)) [ none ↦ performed s c | some r ↦ turn (refused r) s ]
 
 -- the state after a list of calls
 unfoldable pub run : State → List Call → State
@@ -135,15 +135,15 @@ pub data Opening : Type 0 where
   rejected : Refusal → Opening
 
 -- the list is empty, and the current set is the closure of the empty set under the background
-abbrev pub openingState : ℕ → Lent → List (Implication ℕ) → List Object → State
-openingState n lent background rows =
+abbrev pub opening_state : ℕ → Lent → List (Implication ℕ) → List Object → State
+opening_state n lent background rows =
     record { n = n; lent = lent; background = background; rows = rows; list = []; current = closure background 0 }
 
 -- Checks 1 to 6 on what is given. The list is empty and the current set is a closure, so that 7 and the list's part of 3
 -- and 4 never fail here.
 unfoldable pub opening : ℕ → Lent → List (Implication ℕ) → List Object → Opening
 opening n lent background rows =
-    elim (firstFailing (sessionChecks (openingState n lent background rows) [])) [
-      | none ↦ opened (openingState n lent background rows)
+    elim (first_failing (session_checks (opening_state n lent background rows) [])) [
+      | none ↦ opened (opening_state n lent background rows)
       | some r ↦ rejected r
     ]

@@ -32,16 +32,16 @@ pub record Traps : Type 0 where
   -- the conclusion leaves the premise out
   pub rest : (perform (state [] [] 1) step).answer ≡ asked (implication 1 6)
   -- a no is taken: its row comes last and the set stays, which has another question then
-  pub no-taken : perform (state [] (object 7 0 ∷ []) 0) (reject (object 1 6)) ≡ turn taken (state [] (object 7 0 ∷ object 1 6 ∷ []) 0)
-  pub another-question : (perform (state [] (object 7 0 ∷ object 1 6 ∷ []) 0) step).answer ≡ asked (implication 0 1)
+  pub no_taken : perform (state [] (object 7 0 ∷ []) 0) (reject (object 1 6)) ≡ turn taken (state [] (object 7 0 ∷ object 1 6 ∷ []) 0)
+  pub another_question : (perform (state [] (object 7 0 ∷ object 1 6 ∷ []) 0) step).answer ≡ asked (implication 0 1)
   -- a yes is taken and moves under the rule agreed to
-  pub yes-taken : perform (state [] [] 0) accept ≡ turn taken (state (implication 0 7 ∷ []) [] 7)
+  pub yes_taken : perform (state [] [] 0) accept ≡ turn taken (state (implication 0 7 ∷ []) [] 7)
   -- a second yes leaves the first rule where it is (02, request 8/13)
-  pub second-yes : perform (state (implication 4 2 ∷ []) (bare ∷ []) 2) accept ≡ turn taken (state (implication 4 2 ∷ implication 2 5 ∷ []) (bare ∷ []) 1)
+  pub second_yes : perform (state (implication 4 2 ∷ []) (bare ∷ []) 2) accept ≡ turn taken (state (implication 4 2 ∷ implication 2 5 ∷ []) (bare ∷ []) 1)
   -- the first set that equals its reach is not the end: a step moves, to the next set under the list too
   pub tight : perform (state [] (bare ∷ []) 0) step ≡ turn moved (state [] (bare ∷ []) 4)
-  pub tight-listed : perform (state (implication 4 2 ∷ []) (bare ∷ []) 0) step ≡ turn moved (state (implication 4 2 ∷ []) (bare ∷ []) 2)
+  pub tight_listed : perform (state (implication 4 2 ∷ []) (bare ∷ []) 0) step ≡ turn moved (state (implication 4 2 ∷ []) (bare ∷ []) 2)
   -- and from the second set to the third, {1}, not to its reach, which is M
-  pub third-set : perform (state [] (bare ∷ object 4 3 ∷ []) 4) step ≡ turn moved (state [] (bare ∷ object 4 3 ∷ []) 2)
+  pub third_set : perform (state [] (bare ∷ object 4 3 ∷ []) 4) step ≡ turn moved (state [] (bare ∷ object 4 3 ∷ []) 2)
   -- an opening with a question is not finished
-  pub opening-asks : opening 3 (state [] [] 0).lent [] [] ≡ opened (state [] [] 0)
+  pub opening_asks : opening 3 (state [] [] 0).lent [] [] ≡ opened (state [] [] 0)

@@ -1,14 +1,14 @@
 // Checks 5 and 6 of document 01: rows in use that mark an attribute both ways, or that contradict the rules in force.
 ghost use Rattle.std.specs.Prelude.{◌≡◌, ◌+◌, ◌-◌, ◌*◌, ◌≤◌, length, drop};
 ghost use Rattle.context.specs.Places.{lowest};
-ghost use Rattle.context.specs.Objects.{objectsOf, markedTwice};
+ghost use Rattle.context.specs.Objects.{objects_of, marked_twice};
 ghost use Rattle.machine.specs.Calls.{given};
 ghost use Rattle.mark_checks.specs.Marks.{Marks};
 
 // The first of count rows, from a place on, that marks an attribute both ways; count where none does.
 fn first_double(rows: &[u64], count: usize, from: usize) -> usize
     requires { (count * 2 ≤ length rows.now) × (from ≤ count) }
-    ensures { result ≡ from + lowest markedTwice (objectsOf (count - from) (drop (from * 2) rows.now)) }
+    ensures { result ≡ from + lowest marked_twice (objects_of (count - from) (drop (from * 2) rows.now)) }
 {
     let mut i = from;
     while i < count {

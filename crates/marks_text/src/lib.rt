@@ -2,11 +2,11 @@
 // property.
 ghost use Rattle.std.specs.Prelude.{◌≡◌};
 ghost use Rattle.text.specs.Page.{Puts};
-ghost use Rattle.marks_text.specs.Marks.{markOf, marksText};
+ghost use Rattle.marks_text.specs.Marks.{mark_of, marks_text};
 
 // The mark of an attribute, by its digits in the two words of a row.
 fn mark_of(yes: u64, no: u64) -> u8
-    ensures { result ≡ markOf yes no }
+    ensures { result ≡ mark_of yes no }
 {
     if yes != 0 {
         return b'X';
@@ -19,7 +19,7 @@ fn mark_of(yes: u64, no: u64) -> u8
 
 // The marks of the first n attributes of a row, a byte for each.
 pub fn put_marks(out: &mut [u8], at: usize, n: usize, yes: u64, no: u64) -> usize
-    ensures { Puts out at result (marksText n yes no) }
+    ensures { Puts out at result (marks_text n yes no) }
 {
     let mut to = at;
     let mut left_yes = yes;

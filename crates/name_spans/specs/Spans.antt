@@ -13,16 +13,16 @@ span at size = record { at = at; size = size }
 
 -- where the name with this number of count names stands; nowhere, with no bytes, for a number past the last and for a layout that
 -- reading the file does not find
-abbrev pub spanFrom : Bool → ℕ → ℕ → ℕ → List ℕ → Span
-spanFrom found count start k file =
+abbrev pub span_from : Bool → ℕ → ℕ → ℕ → List ℕ → Span
+span_from found count start k file =
     elim (found && ltb k count) [
       | true ↦ span (skipped k file start) (line_of (drop (skipped k file start) file)).size
       | false ↦ span 0 0
     ]
 
 -- of an object and of an attribute
-abbrev pub objectSpan : List ℕ → Layout → ℕ → Span
-objectSpan file l k = spanFrom (finds file l) l.objects l.object_names k file
+abbrev pub object_span : List ℕ → Layout → ℕ → Span
+object_span file l k = span_from (finds file l) l.objects l.object_names k file
 
-abbrev pub attributeSpan : List ℕ → Layout → ℕ → Span
-attributeSpan file l k = spanFrom (finds file l) l.attributes l.attribute_names k file
+abbrev pub attribute_span : List ℕ → Layout → ℕ → Span
+attribute_span file l k = span_from (finds file l) l.attributes l.attribute_names k file

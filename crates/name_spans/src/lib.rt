@@ -2,7 +2,7 @@
 ghost use Rattle.std.specs.Prelude.{◌≡◌};
 ghost use Rattle.found_layout.specs.Found.{finds};
 ghost use Rattle.table_lines.specs.Lines.{skipped};
-ghost use Rattle.name_spans.specs.Spans.{spanFrom, objectSpan, attributeSpan};
+ghost use Rattle.name_spans.specs.Spans.{span_from, object_span, attribute_span};
 
 use table_layout::Layout;
 
@@ -29,7 +29,7 @@ fn skip(file: &[u8], start: usize, count: usize) -> usize
 // Where in the file the name with this number stands, of count names that begin at start; nowhere, with no bytes, for a number past
 // the last and for a layout that is not what reading the file finds.
 fn span_of(file: &[u8], layout: Layout, count: usize, start: usize, number: usize) -> Span
-    ensures { result ≡ spanFrom (finds file.now layout) count start number file.now }
+    ensures { result ≡ span_from (finds file.now layout) count start number file.now }
 {
     if !found_layout::is_found(file, layout) {
         return Span { at: 0, size: 0 };
@@ -47,14 +47,14 @@ fn span_of(file: &[u8], layout: Layout, count: usize, start: usize, number: usiz
 
 // Where the name of an object stands in the file: its offset and how many bytes it has, none where there is no such name.
 pub fn object_span(file: &[u8], layout: Layout, number: usize) -> Span
-    ensures { result ≡ objectSpan file.now layout number }
+    ensures { result ≡ object_span file.now layout number }
 {
     span_of(file, layout, layout.objects, layout.object_names, number)
 }
 
 // Where the name of an attribute stands, as for objects.
 pub fn attribute_span(file: &[u8], layout: Layout, number: usize) -> Span
-    ensures { result ≡ attributeSpan file.now layout number }
+    ensures { result ≡ attribute_span file.now layout number }
 {
     span_of(
         file,

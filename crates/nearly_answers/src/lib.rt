@@ -2,7 +2,7 @@
 ghost use Rattle.std.specs.Prelude.{take};
 ghost use Rattle.table_layout.specs.Layout.{opened_of};
 ghost use Rattle.text.specs.Page.{Puts};
-ghost use Rattle.refusal_reports.specs.Reports.{explanationOf};
+ghost use Rattle.refusal_reports.specs.Reports.{explanation_of};
 ghost use Rattle.nearly_output.specs.Output.{Answers};
 
 use handed_output::Told;
@@ -21,7 +21,7 @@ pub fn answer(file: &[u8; FILE_BYTES], size: usize, out: &mut [u8; OUTPUT_BYTES]
 
 // Why the file in the first so many bytes of the buffer is refused; nothing where it is a table.
 pub fn explain(file: &[u8; FILE_BYTES], size: usize, report: &mut [u8; REPORT_BYTES]) -> usize
-    ensures { Puts report 0 result (explanationOf (take size file.now) (opened_of (take size file.now))) }
+    ensures { Puts report 0 result (explanation_of (take size file.now) (opened_of (take size file.now))) }
 {
     let bytes: &[u8] = file;
     let end = closures::smaller(size, bytes.len());

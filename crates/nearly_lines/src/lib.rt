@@ -1,10 +1,10 @@
 // The lines of the program `nearly`, written into a lent buffer from an offset on; the answer is the offset behind them.
 ghost use Rattle.std.specs.Prelude.{[], ◌∷◌, ◌^◌, ◌<◌, length};
-ghost use Rattle.context.specs.Objects.{objectsOf};
+ghost use Rattle.context.specs.Objects.{objects_of};
 ghost use Rattle.text.specs.Page.{Puts};
 ghost use Rattle.nearly_always.specs.Nearly.{InRange};
-ghost use Rattle.short_premises.specs.Premises.{pairsWith, premises};
-ghost use Rattle.nearly_lines.specs.Lines.{nearlyLines, PutsAll};
+ghost use Rattle.short_premises.specs.Premises.{pairs_with, premises};
+ghost use Rattle.nearly_lines.specs.Lines.{nearly_lines, PutsAll};
 
 // The line of one premise, with the attributes that more than so many per cent of the rows with it have.
 fn put_line(
@@ -17,7 +17,7 @@ fn put_line(
     premise: u64,
 ) -> usize
     requires { InRange n used (length rows.now) percent }
-    ensures { Puts out at result (nearlyLines n percent (objectsOf used rows.now) (premise ∷ [])) }
+    ensures { Puts out at result (nearly_lines n percent (objects_of used rows.now) (premise ∷ [])) }
 {
     let listed = row_counts::nearly_always(n, used, rows, premise, percent);
     output_lines::put_rule(out, at, n, b"N ", premise, listed, b"\n")
@@ -34,7 +34,7 @@ fn put_pairs(
     i: usize,
 ) -> usize
     requires { InRange n used (length rows.now) percent × (i < n) }
-    ensures { Puts out at result (nearlyLines n percent (objectsOf used rows.now) (pairsWith i n)) }
+    ensures { Puts out at result (nearly_lines n percent (objects_of used rows.now) (pairs_with i n)) }
 {
     let single = set_words::raised(0, i);
     let mut to = at;
@@ -65,7 +65,7 @@ fn put_with(
     i: usize,
 ) -> usize
     requires { InRange n used (length rows.now) percent × (i < n) }
-    ensures { Puts out at result (nearlyLines n percent (objectsOf used rows.now) (2 ^ i ∷ pairsWith i n)) }
+    ensures { Puts out at result (nearly_lines n percent (objects_of used rows.now) (2 ^ i ∷ pairs_with i n)) }
 {
     let alone = put_line(out, at, n, used, rows, percent, set_words::raised(0, i));
     put_pairs(out, alone, n, used, rows, percent, i)
@@ -74,7 +74,7 @@ fn put_with(
 // The lines of all premises of one or two attributes.
 fn put_each(out: &mut [u8], at: usize, n: usize, used: usize, rows: &[u64], percent: u64) -> usize
     requires { InRange n used (length rows.now) percent }
-    ensures { Puts out at result (nearlyLines n percent (objectsOf used rows.now) (premises n)) }
+    ensures { Puts out at result (nearly_lines n percent (objects_of used rows.now) (premises n)) }
 {
     let mut to = at;
     let mut i = n;

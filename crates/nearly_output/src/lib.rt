@@ -1,11 +1,11 @@
 // The output of the program nearly (02, request 3/13), handed over: the lines of a table file, or the line of its refusal.
 ghost use Rattle.std.specs.Prelude.{length};
-ghost use Rattle.context.specs.Objects.{objectsOf};
+ghost use Rattle.context.specs.Objects.{objects_of};
 ghost use Rattle.handed_output.specs.Handing.{Tells, Writes};
 ghost use Rattle.nearly_always.specs.Nearly.{InRange};
 ghost use Rattle.short_premises.specs.Premises.{premises};
-ghost use Rattle.nearly_lines.specs.Lines.{nearlyLines};
-ghost use Rattle.nearly_output.specs.Output.{percentage, nearlyOutput};
+ghost use Rattle.nearly_lines.specs.Lines.{nearly_lines};
+ghost use Rattle.nearly_output.specs.Output.{percentage, nearly_output};
 
 use handed_output::{Handed, Told};
 use session::Session;
@@ -20,7 +20,7 @@ const PERCENTAGE: u64 = 80;
 // The lines of a table whose rows are in words, handed over.
 fn write_lines(rows: &[u64], used: usize, n: usize, out: &mut [u8], fd: i32, before: Handed) -> Told
     requires { InRange n used (length rows.now) percentage }
-    ensures { Tells out before result (nearlyLines n percentage (objectsOf used rows.now) (premises n)) }
+    ensures { Tells out before result (nearly_lines n percentage (objects_of used rows.now) (premises n)) }
 {
     let end = nearly_lines::put_lines(out, 0, n, used, rows, PERCENTAGE);
     let handed = handed_output::hand_over(fd, out, 0, end, before);
@@ -29,7 +29,7 @@ fn write_lines(rows: &[u64], used: usize, n: usize, out: &mut [u8], fd: i32, bef
 
 // The program's whole output for a table file, in a lent buffer and on the descriptor fd.
 pub fn list_file(file: &[u8], out: &mut [u8; OUTPUT_BYTES], fd: i32) -> Told
-    ensures { Writes out result (nearlyOutput file.now) }
+    ensures { Writes out result (nearly_output file.now) }
 {
     let mut rows = [0u64; Session::ROWS * 2];
     let before = Handed {

@@ -19,13 +19,13 @@ unfoldable pub fits : List (Implication ℕ) → ℕ → ℕ → Bool
 fits rs x j = eqb (digit x j) 0 && eqb (below (candidate rs x j) j) (below x j)
 
 -- the candidate of the largest attribute below j that fits, or else x
-unfoldable pub nextBelow : List (Implication ℕ) → ℕ → ℕ → ℕ
-nextBelow rs x zero = x
-nextBelow rs x (suc j) = elim (fits rs x j) [ true ↦ candidate rs x j | false ↦ nextBelow rs x j ]
+unfoldable pub next_below : List (Implication ℕ) → ℕ → ℕ → ℕ
+next_below rs x zero = x
+next_below rs x (suc j) = elim (fits rs x j) [ true ↦ candidate rs x j | false ↦ next_below rs x j ]
 
 -- the next closed set after x, of n attributes
 abbrev pub next : List (Implication ℕ) → ℕ → ℕ → ℕ
-next rs n x = nextBelow rs x n
+next rs n x = next_below rs x n
 
 -- what makes r the next closed set after x: closed, inside M, later, and no closed subset of M strictly between
 pub record IsNext (rs : List (Implication ℕ)) (n x r : ℕ) : Type 0 where

@@ -4,19 +4,19 @@ use Rattle.std.specs.Prelude.{◌≡◌, not, List, [], ◌∷◌, ℕ}
 use Rattle.theory.specs.Implications.{Implication}
 use Rattle.context.specs.Objects.{Object, refutes, contradicts}
 use Rattle.context.specs.Filling.{joined, reverses}
-use Rattle.machine.specs.Checks.{check, firstFailing, badRow}
+use Rattle.machine.specs.Checks.{check, first_failing, bad_row}
 use Rattle.size_checks.specs.declared.Verdict.{Verdict}
-use Rattle.size_checks.specs.Verdicts.{verdictOf}
+use Rattle.size_checks.specs.Verdicts.{verdict_of}
 
 -- of a test, where the rules rs are in force and q is the question
 abbrev pub RowTested : ℕ → List (Implication ℕ) → Implication ℕ → Object → Verdict → Type 0
-RowTested n rs q o v = verdictOf v ≡ firstFailing (check 9 (badRow n o) 0 ∷ check 10 (not (refutes rs o q)) 0 ∷ [])
+RowTested n rs q o v = verdict_of v ≡ first_failing (check 9 (bad_row n o) 0 ∷ check 10 (not (refutes rs o q)) 0 ∷ [])
 
 -- of a filing
 abbrev pub RowFits : ℕ → List (Implication ℕ) → Object → Verdict → Type 0
-RowFits n rs o v = verdictOf v ≡ firstFailing (check 9 (badRow n o) 0 ∷ check 11 (contradicts rs o) 0 ∷ [])
+RowFits n rs o v = verdict_of v ≡ first_failing (check 9 (bad_row n o) 0 ∷ check 11 (contradicts rs o) 0 ∷ [])
 
 -- of a filling of the row o with the marks of m
 abbrev pub MarksFit : ℕ → List (Implication ℕ) → Object → Object → Verdict → Type 0
 MarksFit n rs o m v =
-    verdictOf v ≡ firstFailing (check 9 (badRow n m) 0 ∷ check 33 (reverses o m) 0 ∷ check 11 (contradicts rs (joined o m)) 0 ∷ [])
+    verdict_of v ≡ first_failing (check 9 (bad_row n m) 0 ∷ check 33 (reverses o m) 0 ∷ check 11 (contradicts rs (joined o m)) 0 ∷ [])

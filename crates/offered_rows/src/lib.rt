@@ -3,7 +3,7 @@
 ghost use Rattle.implication.specs.Closure.{implication};
 ghost use Rattle.context.specs.Objects.{object, contradicts};
 ghost use Rattle.context.specs.Filling.{reverses};
-ghost use Rattle.context.specs.Parts.{lentForce};
+ghost use Rattle.context.specs.Parts.{lent_force};
 ghost use Rattle.offered_rows.specs.Tests.{RowTested, RowFits, MarksFit};
 
 // Checks 9 and 10 of a row offered to the question with this premise and conclusion.
@@ -17,7 +17,7 @@ pub fn check_tested_row(
     premise: u64,
     conclusion: u64,
 ) -> size_checks::Verdict
-    ensures { RowTested n (lentForce background list rules) (implication premise conclusion) (object yes no) result }
+    ensures { RowTested n (lent_force background list rules) (implication premise conclusion) (object yes no) result }
 {
     if row_tests::bad_row(n, yes, no) {
         return size_checks::refused(9, 0);
@@ -37,7 +37,7 @@ pub fn check_filed_row(
     yes: u64,
     no: u64,
 ) -> size_checks::Verdict
-    ensures { RowFits n (lentForce background list rules) (object yes no) result }
+    ensures { RowFits n (lent_force background list rules) (object yes no) result }
 {
     if row_tests::bad_row(n, yes, no) {
         return size_checks::refused(9, 0);
@@ -59,7 +59,7 @@ pub fn check_added_marks(
     yes: u64,
     no: u64,
 ) -> size_checks::Verdict
-    ensures { MarksFit n (lentForce background list rules) (object known_yes known_no) (object yes no) result }
+    ensures { MarksFit n (lent_force background list rules) (object known_yes known_no) (object yes no) result }
 {
     if row_tests::bad_row(n, yes, no) {
         return size_checks::refused(9, 0);

@@ -17,7 +17,7 @@ use Rattle.table_names.specs.contracts.object_name as core
 use Rattle.opened_table.specs.declared.Table.{Table}
 use Rattle.opened_table.proofs.Table.TheLaws as T'
 use Rattle.opened_table.proofs.Viewed as view
-use Rattle.opened_table.proofs.Viewed.{file-of, WellTyped, well_typed, laid_out, passed_on, handed-on}
+use Rattle.opened_table.proofs.Viewed.{file_of, WellTyped, well_typed, laid_out, passed_on, handed-on}
 use Rattle.opened_table.specs.contracts.object_name as f
 
 -- the arguments' machine values
@@ -75,7 +75,7 @@ module _ {M : Type 1} {𝓤 : Ura M} (𝓛 : Logic 𝓤) (c : Clauses 𝓤 f.end
           move ! (15 ∷ []) $ passed_on ! κs.0 d (laid_out κs.0 d are.0) $ move ! (0 ∷ 15 ∷ []) $ called ! fm core.ended k known to free
           (and_then ! (copied ! 5 refl) (and_then ! (copied ! 3 refl) (and_then ! (copied ! 9 refl) (and_then ! (copied ! 1 refl) (no_more !))))) (λ v r ws.
           -- [the name; the tokens; what is said of the parameters; what the callee ensures; the locals]
-          peeks ! (file-of κs.0) (Is (file-of κs.0)) (shows 𝓛 (file-of κs.0)) r (v ∷ []) (λ is.
+          peeks ! (file_of κs.0) (Is (file_of κs.0)) (shows 𝓛 (file_of κs.0)) r (v ∷ []) (λ is.
           land ! (from ! (stop !)) (init ! 16 refl ((shr_slice_Lawful 𝓛 (named 0) κs.0 u8).typed r _ is).0) $
           returns ! (look ! 16 refl) $
           freed ! 16 refl refl $ freed ! 14 refl refl $ freed ! 12 refl refl $ freed ! 10 refl refl $ freed ! 8 refl refl $ freed ! 6 refl refl $ freed ! 4 refl refl $ free0 ! $

@@ -40,23 +40,23 @@ use Rattle.opened_table.specs.declared.Table.{Table}
 use Rattle.opened_table.specs.contracts.Table as T
 use Rattle.opened_table.proofs.Table.TheLaws as T'
 
-abbrev lent-for : Lft → NamedLft
-lent-for κ = record { mir = named 0; lft = κ }
+abbrev lent_for : Lft → NamedLft
+lent_for κ = record { mir = named 0; lft = κ }
 
 abbrev pub at : Lft → RattleType
-at κ = T.the_row (lent-for κ)
+at κ = T.the_row (lent_for κ)
 
 abbrev pub type : Lft → Declared
-type κ = T.the_type (lent-for κ)
+type κ = T.the_type (lent_for κ)
 
 abbrev pub laws : (κ : Lft) → LL.Laws (type κ)
-laws κ = T'.the_laws (lent-for κ)
+laws κ = T'.the_laws (lent_for κ)
 
 abbrev values : (κ : Lft) → Table → Values (type κ).parts
 values κ d = (d.file, (d.layout, tt))
 
-abbrev pub file-of : Lft → RattleType
-file-of κ = ShrSlice (named 0) κ u8
+abbrev pub file_of : Lft → RattleType
+file_of κ = ShrSlice (named 0) κ u8
 
 -- a view's machine value has its type
 abbrev pub WellTyped : Table → Type 0
@@ -73,12 +73,12 @@ abbrev pub of : Bor (List ℕ) → Layout → Table
 of x l = record { file = x; layout = l }
 
 pub of-typed : {M : Type 1} {𝓤 : Ura M} (𝓛 : Logic 𝓤) → (κ : Lft) (x : Bor (List ℕ)) (l : Layout)
-    → Is (file-of κ) x (shr_slice_vals x) → Is Y.the_row l (Y'.lowered l ∷ []) → WellTyped (of x l)
+    → Is (file_of κ) x (shr_slice_vals x) → Is Y.the_row l (Y'.lowered l ∷ []) → WellTyped (of x l)
 of-typed 𝓛 κ x l is laid = well_typed 𝓛 κ (of x l) (LL.owes (type κ) (laws κ) (of x l) (is, (laid, tt)))
 
 module _ {M : Type 1} {𝓤 : Ura M} {𝓛 : Logic 𝓤} {K : Type 0} {Γ : List (Item 𝓤)} {G : Goal 𝓤 𝓛.H} where
   pub passed_on : K → (κ : Lft) (d : Table) {P : Fml} → Is Y.the_row d.layout (Y'.lowered d.layout ∷ [])
-      → Step K 𝓛 (‵ (fsep ((file-of κ).own d.file (shr_slice_vals d.file)) (fsep ((Y.the_row).own_val d.layout (Y'.lowered d.layout ∷ [])) P)) ∷ Γ) G
+      → Step K 𝓛 (‵ (fsep ((file_of κ).own d.file (shr_slice_vals d.file)) (fsep ((Y.the_row).own_val d.layout (Y'.lowered d.layout ∷ [])) P)) ∷ Γ) G
       (‵ (fsep ((at κ).own d (T'.lowered d ∷ [])) P) ∷ Γ) G
   passed_on t κ d laid = step (λ s.
       fsplit t $ use1 𝓛 (given (T'.lowered d ∷ [] ≡ T'.lowered d ∷ []) (‵ (all_own (type κ).parts (laws κ) (values κ d))))
@@ -90,7 +90,7 @@ module _ {M : Type 1} {𝓤 : Ura M} {𝓛 : Logic 𝓤} {K : Type 0} {Γ : List
       move t (1 ∷ 0 ∷ []) $ fjoin3 t $ s))
 
   pub file-in : K → (κ : Lft) (x : Bor (List ℕ)) (l : Layout) → Is Y.the_row l (Y'.lowered l ∷ [])
-      → Step K 𝓛 (‵ ((at κ).own (of x l) (T'.lowered (of x l) ∷ [])) ∷ Γ) G (‵ ((file-of κ).own x (shr_slice_vals x)) ∷ Γ) G
+      → Step K 𝓛 (‵ ((at κ).own (of x l) (T'.lowered (of x l) ∷ [])) ∷ Γ) G (‵ ((file_of κ).own x (shr_slice_vals x)) ∷ Γ) G
   file-in t κ x l laid = step (λ s.
       nothing t $ owned t Y.the_row (Is Y.the_row) (LL.makes Y.the_type Y'.the_plain 𝓛) l (Y'.lowered l ∷ []) laid $ fjoin t $
       move t (1 ∷ 0 ∷ []) $ fjoin t $
@@ -105,14 +105,14 @@ module _ {M : Type 1} {𝓤 : Ura M} {𝓛 : Logic 𝓤} {K : Type 0} where
 
   pub apart : K → {Γ : List (Item 𝓤)} {G : Goal 𝓤 H} {κ κ' : Lft} {q q' : Share} (R : RattleType) (x : MutBor (List ℕ)) (y : MutBor R.Denot)
       → Step K 𝓛 (‵ (fobs y.ghost_name (R.coded.code y.now)) ∷ ‵ (fbor κ' (Body (mem R) y.ref_ptr.0 y.ref_ptr.1 y.ghost_name)) ∷ ‵ (flft κ' q')
-      ∷ ‵ ((file-of κ).own x (mut_slice_vals x)) ∷ ‵ (fsep ((file-of κ).own x (mut_slice_vals x)) ftrue) ∷ raw (toks 𝓛 1 (κ, tt) (q, tt)) ∷ Γ) G
+      ∷ ‵ ((file_of κ).own x (mut_slice_vals x)) ∷ ‵ (fsep ((file_of κ).own x (mut_slice_vals x)) ftrue) ∷ raw (toks 𝓛 1 (κ, tt) (q, tt)) ∷ Γ) G
       ((‵ (flft κ q) ⊛ (‵ (flft κ' q') ⊛ raw (emp 𝓤)))
-      ∷ ‵ (fsep ((file-of κ).own x (mut_slice_vals x)) (fsep ((MutRef (named 1) κ' R).own_val y (mut_vals y)) ftrue)) ∷ Γ) G
+      ∷ ‵ (fsep ((file_of κ).own x (mut_slice_vals x)) (fsep ((MutRef (named 1) κ' R).own_val y (mut_vals y)) ftrue)) ∷ Γ) G
   apart t {κ = κ} {q = q} R x y = step (λ s.
       split t $ move t (1 ∷ []) $ split t $ move t (2 ∷ 1 ∷ []) $ join t $ use1 𝓛 (raw (toks 𝓛 1 (κ, tt) (q, tt))) (id⊢ 𝓤 _) $
       -- [the file's token; the struct's token; what the parameters own]
       move t (2 ∷ []) $ fsplit t $
-      use1 𝓛 (‵ ((file-of κ).own x (mut_slice_vals x)) ⊛ ‵ ((file-of κ).own x (mut_slice_vals x)))
+      use1 𝓛 (‵ ((file_of κ).own x (mut_slice_vals x)) ⊛ ‵ ((file_of κ).own x (mut_slice_vals x)))
       ((shr_slice_copy 𝓛 (named 0) κ u8).twice x (mut_slice_vals x)) $ split t $
       move t (2 ∷ []) $ fsplit t $ fsplit3 t $ drop t $ move t (3 ∷ 2 ∷ []) $ fjoin t $ move t (1 ∷ 2 ∷ 5 ∷ 3 ∷ 0 ∷ 4 ∷ []) $ s)
 

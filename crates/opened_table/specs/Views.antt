@@ -6,9 +6,9 @@ use Rattle.answer_words.specs.declared.Answer.{Answer as Coded}
 use Rattle.table_layout.specs.Layout.{layout, opened_of}
 use Rattle.table_layout.specs.declared.Layout.{Layout}
 use Rattle.table_layout.specs.declared.Opened.{Opened}
-use Rattle.name_spans.specs.Spans.{objectSpan, attributeSpan}
+use Rattle.name_spans.specs.Spans.{object_span, attribute_span}
 use Rattle.table_names.specs.Names.{Named}
-use Rattle.coded_tables.specs.Tables.{codeOfOpened, layoutAfter}
+use Rattle.coded_tables.specs.Tables.{code_of_opened, layout_after}
 use Rattle.opened_table.specs.declared.Table.{Table}
 pub mod Laws
 
@@ -18,7 +18,7 @@ no_layout = layout 0 0 0 0 0
 
 -- the answer, and the layout of the view: that of no file where the file is refused
 abbrev pub Opens : Opened → Coded → Layout → Type 0
-Opens o answer l = (answer ≡ codeOfOpened o) × (l ≡ layoutAfter o no_layout)
+Opens o answer l = (answer ≡ code_of_opened o) × (l ≡ layout_after o no_layout)
 
 -- the answer, and the view, which is of that file
 abbrev pub OpensView : Bor (List ℕ) → Coded → Table → Type 0
@@ -26,7 +26,7 @@ OpensView file answer t = Opens (opened_of file.now) answer t.layout × (t.file 
 
 -- a name by its number, and the number of the refusal
 abbrev pub ObjectNamed : Table → ℕ → List ℕ → ℕ → Type 0
-ObjectNamed t k name refused = Named (objectSpan t.file.now t.layout k) t.file.now name refused
+ObjectNamed t k name refused = Named (object_span t.file.now t.layout k) t.file.now name refused
 
 abbrev pub AttributeNamed : Table → ℕ → List ℕ → ℕ → Type 0
-AttributeNamed t k name refused = Named (attributeSpan t.file.now t.layout k) t.file.now name refused
+AttributeNamed t k name refused = Named (attribute_span t.file.now t.layout k) t.file.now name refused

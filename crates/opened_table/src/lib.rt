@@ -1,7 +1,7 @@
 // An opened table as a view: the file that it was opened from and what reading it found (01, "The table file").
 ghost use Rattle.std.specs.Prelude.{◌≡◌, length};
 ghost use Rattle.table_layout.specs.Layout.{opened_of};
-ghost use Rattle.mark_reading.specs.Marks.{readingAs, rowWords};
+ghost use Rattle.mark_reading.specs.Marks.{reading_as, words_of_rows};
 ghost use Rattle.opened_table.specs.Views.{Opens, OpensView, ObjectNamed, AttributeNamed};
 
 use answer_words::Answer;
@@ -67,8 +67,8 @@ pub fn attribute_name<'a>(table: Table<'a>, number: usize, refused: &mut u64) ->
 
 // The marks of a table, into lent row words; nothing is written unless everything passed.
 pub fn read_marks<'a>(table: Table<'a>, rows: &mut [u64]) -> Opened
-    ensures answer { result ≡ readingAs table.entry.layout (length rows.old) table.entry.file.now }
-    ensures written { rows.new ≡ rowWords result table.entry.file.now rows.old }
+    ensures answer { result ≡ reading_as table.entry.layout (length rows.old) table.entry.file.now }
+    ensures written { rows.new ≡ words_of_rows result table.entry.file.now rows.old }
 {
     table_marks::read_marks_of(table.file, table.layout, rows)
 }

@@ -3,7 +3,7 @@
 ghost use Rattle.std.specs.Prelude.{[], ◌∷◌, ◌++◌};
 ghost use Rattle.implication.specs.Closure.{implication};
 ghost use Rattle.text.specs.Page.{Puts};
-ghost use Rattle.output_lines.specs.Lines.{ruleText, yesLine, noLine, wholeRules, listLines};
+ghost use Rattle.output_lines.specs.Lines.{rule_text, yes_line, no_line, whole_rules, list_lines};
 
 // Premise and conclusion, between the words in front of them and those behind.
 pub fn put_rule(
@@ -15,7 +15,7 @@ pub fn put_rule(
     conclusion: u64,
     behind: &[u8],
 ) -> usize
-    ensures { Puts out at result (front.now ++ (ruleText n (implication premise conclusion) ++ behind.now)) }
+    ensures { Puts out at result (front.now ++ (rule_text n (implication premise conclusion) ++ behind.now)) }
 {
     let fronted = text::put_bytes(out, at, front);
     let premised = text::put_set(out, fronted, n, premise);
@@ -26,14 +26,14 @@ pub fn put_rule(
 
 // The line of a question answered yes.
 pub fn put_yes(out: &mut [u8], at: usize, n: usize, premise: u64, conclusion: u64) -> usize
-    ensures { Puts out at result (yesLine n (implication premise conclusion)) }
+    ensures { Puts out at result (yes_line n (implication premise conclusion)) }
 {
     put_rule(out, at, n, b"Q ", premise, conclusion, b" yes\n")
 }
 
 // The line of a question answered no, with the row that refutes it.
 pub fn put_no(out: &mut [u8], at: usize, n: usize, premise: u64, conclusion: u64, row: u64) -> usize
-    ensures { Puts out at result (noLine n (implication premise conclusion) row) }
+    ensures { Puts out at result (no_line n (implication premise conclusion) row) }
 {
     let refuted = put_rule(out, at, n, b"Q ", premise, conclusion, b" no ");
     closing_lines::put_number_then(out, refuted, row, b'\n')
@@ -41,14 +41,14 @@ pub fn put_no(out: &mut [u8], at: usize, n: usize, premise: u64, conclusion: u64
 
 // The line of one rule of the list.
 fn put_listed(out: &mut [u8], at: usize, n: usize, premise: u64, conclusion: u64) -> usize
-    ensures { Puts out at result (listLines n (implication premise conclusion ∷ [])) }
+    ensures { Puts out at result (list_lines n (implication premise conclusion ∷ [])) }
 {
     put_rule(out, at, n, b"L ", premise, conclusion, b"\n")
 }
 
 // The lines of the list's first count rules, as far as the slice has them whole.
 pub fn put_list(out: &mut [u8], at: usize, n: usize, list: &[u64], count: usize) -> usize
-    ensures { Puts out at result (listLines n (wholeRules count list.now)) }
+    ensures { Puts out at result (list_lines n (whole_rules count list.now)) }
 {
     let whole = closures::smaller(count, list.len() / 2);
     let mut to = at;

@@ -1,12 +1,12 @@
 // Why a table file was refused, in words: the line and what was expected there, and the sentence of the refusal.
 ghost use Rattle.text.specs.Page.{Puts};
-ghost use Rattle.refusal_reports.specs.Reports.{lineText, sentenceLine};
-ghost use Rattle.refusal_reports.specs.Reports.{report, explanation, explanationOf};
+ghost use Rattle.refusal_reports.specs.Reports.{line_text, sentence_line};
+ghost use Rattle.refusal_reports.specs.Reports.{report, explanation, explanation_of};
 ghost use Rattle.table_layout.specs.Layout.{opened_of};
 
 // `line N: `
 fn put_line_number(out: &mut [u8], at: usize, line: u64) -> usize
-    ensures { Puts out at result (lineText line) }
+    ensures { Puts out at result (line_text line) }
 {
     let named = text::put_bytes(out, at, b"line ");
     let numbered = text::put_number(out, named, line);
@@ -15,7 +15,7 @@ fn put_line_number(out: &mut [u8], at: usize, line: u64) -> usize
 
 // The sentence of a refusal, as a line.
 pub fn put_sentence_line(out: &mut [u8], at: usize, number: u64) -> usize
-    ensures { Puts out at result (sentenceLine number) }
+    ensures { Puts out at result (sentence_line number) }
 {
     let said = refusal_words::put_sentence(out, at, number);
     text::put_byte(out, said, b'\n')
@@ -33,7 +33,7 @@ pub fn put_report(out: &mut [u8], at: usize, file: &[u8], number: u64, place: us
 
 // Why a file is refused, by what it opened as; nothing where it is not.
 fn put_why(out: &mut [u8], at: usize, file: &[u8], opened: table_layout::Opened) -> usize
-    ensures { Puts out at result (explanationOf file.now opened) }
+    ensures { Puts out at result (explanation_of file.now opened) }
 {
     match opened {
         table_layout::Opened::Found(_) => at,
@@ -57,7 +57,7 @@ pub fn put_explanation(out: &mut [u8], at: usize, file: &[u8]) -> usize
 
 // Why a file is refused where unknown marks pass.
 pub fn put_opened(out: &mut [u8], at: usize, file: &[u8]) -> usize
-    ensures { Puts out at result (explanationOf file.now (opened_of file.now)) }
+    ensures { Puts out at result (explanation_of file.now (opened_of file.now)) }
 {
     let opened = table_layout::open(file);
     put_why(out, at, file, opened)

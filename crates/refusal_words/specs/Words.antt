@@ -27,9 +27,9 @@ abbrev pub left : ℕ → ℕ → ℕ
 left k b = elim (eqb b 10) [ true ↦ k - 1 | false ↦ k ]
 
 -- the line of a number, the first being 0; nothing past the last
-unfoldable pub lineNumber : ℕ → List ℕ → List ℕ
-lineNumber k [] = []
-lineNumber k (b ∷ bs) = elim (ends k b) [ true ↦ [] | false ↦ shown k b ++ lineNumber (left k b) bs ]
+unfoldable pub line_number : ℕ → List ℕ → List ℕ
+line_number k [] = []
+line_number k (b ∷ bs) = elim (ends k b) [ true ↦ [] | false ↦ shown k b ++ line_number (left k b) bs ]
 
 -- the sentences, one for each number from 0 on; empty for a number that no refusal has
 abbrev pub sentences : List ℕ
@@ -74,4 +74,4 @@ sentences =
 
 -- the sentence of a refusal number
 abbrev pub sentence : ℕ → List ℕ
-sentence number = lineNumber number sentences
+sentence number = line_number number sentences

@@ -1,7 +1,7 @@
 // What each refusal number means, and what a person does next, written into a lent buffer.
 ghost use Rattle.std.specs.Prelude.{◌≡◌};
 ghost use Rattle.text.specs.Page.{Puts};
-ghost use Rattle.refusal_words.specs.Words.{ends, shown, left, lineNumber, sentence};
+ghost use Rattle.refusal_words.specs.Words.{ends, shown, left, line_number, sentence};
 
 // The line that is sought ends at this byte.
 fn line_ends(skip: u64, byte: u8) -> bool
@@ -38,7 +38,7 @@ fn lines_left(skip: u64, byte: u8) -> u64
 
 // The line of a number, the first being 0.
 pub fn put_line(out: &mut [u8], at: usize, lines: &[u8], number: u64) -> usize
-    ensures { Puts out at result (lineNumber number lines.now) }
+    ensures { Puts out at result (line_number number lines.now) }
 {
     let mut to = at;
     let mut skip = number;

@@ -2,9 +2,9 @@
 // the no marks. In force are the whole background and the first so many of the list.
 ghost use Rattle.std.specs.Prelude.{◌≡◌};
 ghost use Rattle.std.specs.Int.Bits.{bit_and};
-ghost use Rattle.implication.specs.Closure.{implication, inForce, closure};
+ghost use Rattle.implication.specs.Closure.{implication, in_force, closure};
 ghost use Rattle.context.specs.Objects.{object, lacks};
-ghost use Rattle.context.specs.Parts.{lentForce, spared, refutedPart};
+ghost use Rattle.context.specs.Parts.{lent_force, spared, refuted_part};
 
 // The closure of the yes marks with an attribute, where it does not meet the no marks; else nothing.
 fn spared_with(
@@ -15,7 +15,7 @@ fn spared_with(
     no: u64,
     attribute: u64,
 ) -> u64
-    ensures { result ≡ spared (lentForce background list rules) (object yes no) attribute }
+    ensures { result ≡ spared (lent_force background list rules) (object yes no) attribute }
 {
     let found = closures::close_until(background, list, rules, yes | attribute, no);
     if found & no != 0 {
@@ -35,9 +35,9 @@ fn lacked_among(
     has: u64,
     among: u64,
 ) -> u64
-    requires has_value { has ≡ closure (inForce background.now list.now rules) yes }
+    requires has_value { has ≡ closure (in_force background.now list.now rules) yes }
     requires no_value { bit_and has no ≡ 0 }
-    ensures { result ≡ bit_and among (lacks (lentForce background list rules) (object yes no)) }
+    ensures { result ≡ bit_and among (lacks (lent_force background list rules) (object yes no)) }
 {
     let mut lacked = among & no;
     let mut left = set_words::difference(set_words::difference(among, no), has);
@@ -60,7 +60,7 @@ pub fn refuted_part(
     premise: u64,
     conclusion: u64,
 ) -> u64
-    ensures { result ≡ refutedPart (lentForce background list rules) (object yes no) (implication premise conclusion) }
+    ensures { result ≡ refuted_part (lent_force background list rules) (object yes no) (implication premise conclusion) }
 {
     if no == 0 {
         return 0;

@@ -3,7 +3,7 @@
 ghost use Rattle.std.specs.Prelude.{◌≡◌, ◌*◌, ◌≤◌, length};
 ghost use Rattle.implication.specs.Closure.{implication};
 ghost use Rattle.context.specs.Objects.{object, refutes};
-ghost use Rattle.context.specs.Parts.{lentForce, FirstRefuting};
+ghost use Rattle.context.specs.Parts.{lent_force, FirstRefuting};
 
 // Whether the object refutes the implication.
 pub fn refuted_by(
@@ -15,7 +15,7 @@ pub fn refuted_by(
     premise: u64,
     conclusion: u64,
 ) -> bool
-    ensures { result ≡ refutes (lentForce background list rules) (object yes no) (implication premise conclusion) }
+    ensures { result ≡ refutes (lent_force background list rules) (object yes no) (implication premise conclusion) }
 {
     refuted_parts::refuted_part(background, list, rules, yes, no, premise, conclusion) != 0
 }

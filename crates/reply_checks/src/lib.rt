@@ -3,8 +3,8 @@ ghost use Rattle.std.specs.Prelude.{◌≡◌};
 ghost use Rattle.context.specs.Objects.{object};
 ghost use Rattle.machine.specs.Machine.{accept as accepting, test};
 ghost use Rattle.machine.specs.Calls.{given};
-ghost use Rattle.size_checks.specs.Verdicts.{verdictOf};
-ghost use Rattle.reply_checks.specs.Outcomes.{asking, askingAfter, unasked};
+ghost use Rattle.size_checks.specs.Verdicts.{verdict_of};
+ghost use Rattle.reply_checks.specs.Outcomes.{asking, asking_after, unasked};
 
 // The standing question, to which a reply or a test passes its checks, or its refusal.
 #[derive(Drop)]
@@ -15,7 +15,7 @@ pub enum Asking {
 
 // The question of a call whose checks behind check 8 have this verdict.
 fn ask(question: standing::Question, verdict: size_checks::Verdict) -> Asking
-    ensures { result ≡ askingAfter question (verdictOf verdict) }
+    ensures { result ≡ asking_after question (verdict_of verdict) }
 {
     match verdict {
         size_checks::Verdict::Passed => Asking::Question(question),

@@ -1,7 +1,7 @@
 -- A table file written anew (02, request 2/13: a file written from what was read): what is read of it into the row words of a session is
 -- written with the file's own names, where they stand in it.
 use Rattle.std.specs.Prelude.{◌≡◌, List, ℕ, ◌*◌, ◌≤◌, length, take, replicate}
-use Rattle.session.specs.Limits.{mostObjects}
+use Rattle.session.specs.Limits.{most_objects}
 use Rattle.text.specs.Page.{Buffer}
 use Rattle.table_layout.specs.declared.Opened.{Opened}
 use Rattle.table_layout.specs.declared.Opened.TheVariants.{Found, Refused as Unread}
@@ -14,7 +14,7 @@ pub mod Theorem
 
 -- the row words of a session before the reading
 abbrev pub no_rows : List ℕ
-no_rows = replicate (mostObjects * 2) 0
+no_rows = replicate (most_objects * 2) 0
 
 -- by what the file opens as: the call that writes what was read of it; or the reader's refusal, and every byte of the output is kept
 abbrev pub RewritesAs : Opened → List ℕ → List ℕ → Written → List ℕ → Type 0

@@ -2,7 +2,7 @@
 // the implications in force imply: the whole background and the first so many of the list.
 ghost use Rattle.std.specs.Prelude.{◌≡◌, ◌*◌, ◌≤◌, min, length};
 ghost use Rattle.context.specs.Objects.{object};
-ghost use Rattle.context.specs.Parts.{lentForce};
+ghost use Rattle.context.specs.Parts.{lent_force};
 ghost use Rattle.reach.specs.Reach.{cut};
 ghost use Rattle.reach.specs.Lent.{NarrowBy, ReachOf};
 
@@ -16,7 +16,7 @@ fn cut_by(
     set: u64,
     x: u64,
 ) -> u64
-    ensures { result ≡ cut (lentForce background list rules) set (object yes no) x }
+    ensures { result ≡ cut (lent_force background list rules) set (object yes no) x }
 {
     set_words::difference(
         x,

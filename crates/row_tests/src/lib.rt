@@ -2,12 +2,12 @@
 ghost use Rattle.std.specs.Prelude.{◌≡◌};
 ghost use Rattle.context.specs.Objects.{object, contradicts};
 ghost use Rattle.context.specs.Filling.{reverses};
-ghost use Rattle.context.specs.Parts.{lentForce};
-ghost use Rattle.machine.specs.Checks.{badRow};
+ghost use Rattle.context.specs.Parts.{lent_force};
+ghost use Rattle.machine.specs.Checks.{bad_row};
 
 // The tests of check 9: a row with an attribute outside M, or with one marked both ways.
 pub fn bad_row(n: usize, yes: u64, no: u64) -> bool
-    ensures { result ≡ badRow n (object yes no) }
+    ensures { result ≡ bad_row n (object yes no) }
 {
     if outside_check::strange_pair(yes, no, set_words::full_set(n)) {
         return true;
@@ -27,7 +27,7 @@ pub fn reverses_mark(known_yes: u64, known_no: u64, yes: u64, no: u64) -> bool
 
 // The test of check 11: a row that contradicts the implications in force.
 pub fn row_contradicts(background: &[u64], list: &[u64], rules: usize, yes: u64, no: u64) -> bool
-    ensures { result ≡ contradicts (lentForce background list rules) (object yes no) }
+    ensures { result ≡ contradicts (lent_force background list rules) (object yes no) }
 {
     closures::closure_of(background, list, rules, yes) & no != 0
 }

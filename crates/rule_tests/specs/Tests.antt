@@ -2,10 +2,10 @@
 -- question that stands.
 use Rattle.std.specs.Prelude.{◌≡◌, ℕ, drop}
 use Rattle.theory.specs.Implications.{Implication}
-use Rattle.machine.specs.Checks.{State, firstFailing, question, yesChecks}
+use Rattle.machine.specs.Checks.{State, first_failing, question, yes_checks}
 use Rattle.size_checks.specs.declared.Verdict.{Verdict}
-use Rattle.size_checks.specs.Verdicts.{verdictOf}
+use Rattle.size_checks.specs.Verdicts.{verdict_of}
 
 -- of a yes to q
 abbrev pub RuleTested : State → Implication ℕ → Verdict → Type 0
-RuleTested s q v = q ≡ question s → verdictOf v ≡ firstFailing (drop 1 (yesChecks s))
+RuleTested s q v = q ≡ question s → verdict_of v ≡ first_failing (drop 1 (yes_checks s))

@@ -8,10 +8,10 @@ use Rattle.table_layout.specs.declared.Opened.TheVariants.{Found, Refused}
 use Rattle.table_lines.specs.Lines.{skipped}
 use Rattle.table_lines.specs.Pieces.{lines_of}
 use Rattle.table_layout.specs.Layout.{opened_of}
-use Rattle.complete_tables.specs.Complete.{openedComplete}
+use Rattle.complete_tables.specs.Complete.{opened_complete}
 use Rattle.table_rows.specs.Rows.{rows_from}
-use Rattle.table_names.specs.Names.{objectName, attributeName}
-use Rattle.mark_reading.specs.Marks.{reading, wordsRead, completeReading, completeWordsRead}
+use Rattle.table_names.specs.Names.{object_name, attribute_name}
+use Rattle.mark_reading.specs.Marks.{reading, words_read, complete_reading, complete_words_read}
 pub mod Walks
 pub mod Tables
 pub mod Theorem
@@ -28,15 +28,15 @@ SameRefusal f g r r' = (r.number ≡ r'.number) × SameLine f g r.place r'.place
 pub record SameLayout (f g : List ℕ) (l l' : Layout) : Type 0 where
   pub objects : l.objects ≡ l'.objects
   pub attributes : l.attributes ≡ l'.attributes
-  pub object-lines : SameLine f g l.object_names l'.object_names
-  pub attribute-lines : SameLine f g l.attribute_names l'.attribute_names
-  pub mark-lines : SameLine f g l.marks l'.marks
+  pub object_lines : SameLine f g l.object_names l'.object_names
+  pub attribute_lines : SameLine f g l.attribute_names l'.attribute_names
+  pub lines_of_marks : SameLine f g l.marks l'.marks
 
 -- the same counts, names and rows
 pub record SameTable (f g : List ℕ) (l l' : Layout) : Type 0 where
   pub layout : SameLayout f g l l'
-  pub object-names : (k : ℕ) → objectName f l k ≡ objectName g l' k
-  pub attribute-names : (k : ℕ) → attributeName f l k ≡ attributeName g l' k
+  pub object_names : (k : ℕ) → object_name f l k ≡ object_name g l' k
+  pub attribute_names : (k : ℕ) → attribute_name f l k ≡ attribute_name g l' k
   pub rows : rows_from l.objects f l.marks ≡ rows_from l'.objects g l'.marks
 
 -- both answers are tables that say the same, or both are refusals that do
@@ -49,7 +49,7 @@ SameAnswer f g (Refused r) (Refused r') = SameRefusal f g r r'
 -- opened, and opened as a complete table; read into lent row words, and as a complete table: the same answer and the same words
 pub record SaySame (f g : List ℕ) : Type 0 where
   pub opened : SameAnswer f g (opened_of f) (opened_of g)
-  pub opened-complete : SameAnswer f g (openedComplete f) (openedComplete g)
-  pub read : (words : List ℕ) → SameAnswer f g (reading (length words) f) (reading (length words) g) × (wordsRead f words ≡ wordsRead g words)
-  pub read-complete : (words : List ℕ)
-      → SameAnswer f g (completeReading (length words) f) (completeReading (length words) g) × (completeWordsRead f words ≡ completeWordsRead g words)
+  pub complete_opened : SameAnswer f g (opened_complete f) (opened_complete g)
+  pub read : (words : List ℕ) → SameAnswer f g (reading (length words) f) (reading (length words) g) × (words_read f words ≡ words_read g words)
+  pub read_complete : (words : List ℕ)
+      → SameAnswer f g (complete_reading (length words) f) (complete_reading (length words) g) × (complete_words_read f words ≡ complete_words_read g words)

@@ -7,13 +7,13 @@ use Rattle.context.specs.Objects.{Object}
 use Rattle.machine.specs.Machine.{opened, rejected}
 use Rattle.demands.specs.Replies.{Truthful}
 use Rattle.demands.specs.Demand3.{Finished}
-use Rattle.machine.specs.Calls.{state_of, Words, Record, openingFrom}
+use Rattle.machine.specs.Calls.{state_of, Words, Record, opening_from}
 use Rattle.answer_words.specs.declared.Answer.{Answer as Coded}
 use Rattle.answer_words.specs.Codes.{coded, LentAnswer}
-use Rattle.call_logs.specs.Replay.{LogWords, logWords, AllMade}
+use Rattle.call_logs.specs.Replay.{LogWords, log_words, AllMade}
 use Rattle.call_logs.specs.declared.Log.{Log}
 use Rattle.call_logs.specs.declared.Log.TheVariants.{Replayed, Short}
-use Rattle.saved_interview.specs.Demand3Whole.{Interview, opening-state, end-state, script, Demand3Whole, SameLists}
+use Rattle.saved_interview.specs.Demand3Whole.{Interview, state_opened, end_state, script, Demand3Whole, SameLists}
 use Rattle.saved_interview.specs.Trace.{Trace}
 use Rattle.saved_interview.specs.ShownResultsWhole.{ShownInLog}
 pub mod Theorem
@@ -28,22 +28,22 @@ module _ (n used : ℕ) (background calls : List ℕ) (before : Session) (words 
   -- the opening was refused: its number and place, and nothing was done
   pub record NotOpened : Type 0 where
     pub refusal : Refusal
-    pub rejects : openingFrom n used words.rows words.list background ≡ rejected refusal
+    pub rejects : opening_from n used words.rows words.list background ≡ rejected refusal
     pub answer : x ≡ coded refusal.number refusal.place 0
-    pub same-record : after ≡ before
-    pub same-words : words' ≡ words
+    pub same_record : after ≡ before
+    pub same_words : words' ≡ words
 
   -- the answers have no room for all calls: 3, and nothing was done
   pub record NoRoom : Type 0 where
     pub short : length words.answers / 3 < length calls / 4
     pub answer : x ≡ coded 3 0 0
-    pub same-record : after ≡ before
-    pub same-words : words' ≡ words
+    pub same_record : after ≡ before
+    pub same_words : words' ≡ words
 
   -- every call was made on the session that the opening gave
   pub record TakenUp : Type 0 where
     pub start : Session
-    pub opens : opened (state_of start words.rows words.list background) ≡ openingFrom n used words.rows words.list background
+    pub opens : opened (state_of start words.rows words.list background) ≡ opening_from n used words.rows words.list background
     pub made : AllMade background calls start words after words'
     pub answer : x ≡ coded 103 0 0
 
@@ -57,18 +57,18 @@ module _ (n used : ℕ) (background calls : List ℕ) (before : Session) (words 
     calls = calls;
     start = t.start;
     end = after;
-    rows-after = words'.rows;
-    list-after = words'.list;
-    answers-after = words'.answers;
+    rows_later = words'.rows;
+    list_later = words'.list;
+    answers_after = words'.answers;
     opens = t.opens;
     made = t.made;
   }
 
   pub record Held : Type 0 where
-    pub taken-up : TakenUp
-    pub demand-3 : Demand3Whole (interview taken-up)
-    pub trace : Trace (interview taken-up)
-    pub shown : ShownInLog (interview taken-up)
+    pub taken_up : TakenUp
+    pub demand_3 : Demand3Whole (interview taken_up)
+    pub trace : Trace (interview taken_up)
+    pub shown : ShownInLog (interview taken_up)
 
   abbrev pub Outcome : Type 0
   Outcome = NotOpened ⊎ (NoRoom ⊎ Held)
@@ -76,8 +76,8 @@ module _ (n used : ℕ) (background calls : List ℕ) (before : Session) (words 
 -- what taking up a saved interview promises of the lent words: rows, list, background, calls, answers
 abbrev pub TakesUp : ℕ → ℕ → Session → Words → Words → Words → Words → Words → Coded → Session → Type 0
 TakesUp n used before rows list background calls answers x after =
-    Outcome n used background.entry.now calls.entry.now before (logWords rows.entry.now list.entry.now answers.entry.now) x after
-    (logWords rows.exit.now list.exit.now answers.exit.now)
+    Outcome n used background.entry.now calls.entry.now before (log_words rows.entry.now list.entry.now answers.entry.now) x after
+    (log_words rows.exit.now list.exit.now answers.exit.now)
 
 -- the same, and whether the record changed: only where the calls were made
 abbrev pub TakesUpTo : ℕ → ℕ → Session → Words → Words → Words → Words → Words → Coded → Session → Bool → Type 0
@@ -94,6 +94,6 @@ abbrev pub SameListTakenUp : ℕ → List ℕ → Type 0
 SameListTakenUp n background =
     (used used' : ℕ) (calls calls' : List ℕ) (before before' : Session) (words words' : LogWords) (x x' : Coded) (after after' : Session) (left left' : LogWords)
     (h : Held n used background calls before words x after left) (h' : Held n used' background calls' before' words' x' after' left')
-    → let i = interview n used background calls before words x after left h.taken-up in
-    let j = interview n used' background calls' before' words' x' after' left' h'.taken-up in
-    Finished (end-state i) → Finished (end-state j) → (t : List Object) → Truthful t (opening-state i) (script i) → Truthful t (opening-state j) (script j) → SameLists i j
+    → let i = interview n used background calls before words x after left h.taken_up in
+    let j = interview n used' background calls' before' words' x' after' left' h'.taken_up in
+    Finished (end_state i) → Finished (end_state j) → (t : List Object) → Truthful t (state_opened i) (script i) → Truthful t (state_opened j) (script j) → SameLists i j

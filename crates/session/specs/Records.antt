@@ -4,5 +4,5 @@ use Rattle.std.specs.Prelude.{Bool, ◌&&◌, eqb}
 use Rattle.session.specs.declared.Session.{Session}
 pub mod Laws
 
-abbrev pub sameSession : Session → Session → Bool
-sameSession a b = eqb a.n b.n && (eqb a.rows b.rows && (eqb a.rules b.rules && eqb a.current b.current))
+abbrev pub same_session : Session → Session → Bool
+same_session a b = eqb a.n b.n && (eqb a.rows b.rows && (eqb a.rules b.rules && eqb a.current b.current))

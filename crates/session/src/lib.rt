@@ -1,7 +1,7 @@
 // The session record with its limits, and the refusal: what every call of the library is made with.
 ghost use Rattle.std.specs.Prelude.{◌≡◌, not};
 ghost use Rattle.session.specs.Refusals.{refusal};
-ghost use Rattle.session.specs.Records.{sameSession};
+ghost use Rattle.session.specs.Records.{same_session};
 
 // An interview between two calls: the number of attributes (01: properties), the rows and rules in use, the current set.
 #[repr(C)]
@@ -38,7 +38,7 @@ pub fn refuse(number: u64, place: usize) -> Refusal
 
 // Whether two records differ.
 pub fn differ(a: Session, b: Session) -> bool
-    ensures { result ≡ not (sameSession a b) }
+    ensures { result ≡ not (same_session a b) }
 {
     if a.n != b.n {
         return true;

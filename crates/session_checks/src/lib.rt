@@ -2,7 +2,7 @@
 ghost use Rattle.std.specs.Prelude.{◌≡◌};
 ghost use Rattle.implication.specs.Closure.{implication};
 ghost use Rattle.machine.specs.Calls.{given};
-ghost use Rattle.size_checks.specs.Verdicts.{verdictOf};
+ghost use Rattle.size_checks.specs.Verdicts.{verdict_of};
 ghost use Rattle.session_checks.specs.Checked.{first_of, Closed, Checked};
 
 // Check 7: the current set is its own closure under the rules in force.
@@ -22,7 +22,7 @@ fn check_closed(
 
 // The first of two verdicts that refuses, in their order.
 pub fn earlier(first: size_checks::Verdict, second: size_checks::Verdict) -> size_checks::Verdict
-    ensures { verdictOf result ≡ first_of (verdictOf first) (verdictOf second) }
+    ensures { verdict_of result ≡ first_of (verdict_of first) (verdict_of second) }
 {
     match first {
         size_checks::Verdict::Refused(refusal) => size_checks::Verdict::Refused(refusal),

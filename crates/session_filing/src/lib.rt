@@ -3,7 +3,7 @@
 ghost use Rattle.context.specs.Objects.{object};
 ghost use Rattle.machine.specs.Machine.{file};
 ghost use Rattle.machine.specs.Calls.{Turns};
-ghost use Rattle.session_replies.specs.Answers.{replyAnswer};
+ghost use Rattle.session_replies.specs.Answers.{reply_answer};
 
 // 02's filing: the offered row becomes the next row. No question has to stand.
 pub fn file_row(
@@ -14,7 +14,7 @@ pub fn file_row(
     yes: u64,
     no: u64,
 ) -> session_replies::Replied
-    ensures { Turns (file (object yes no)) session rows list background (replyAnswer result.answer) result.session result.changed }
+    ensures { Turns (file (object yes no)) session rows list background (reply_answer result.answer) result.session result.changed }
 {
     let verdict = session_checks::check_session(session, rows, list, background, 0, 0);
     if let size_checks::Verdict::Refused(refusal) = verdict {

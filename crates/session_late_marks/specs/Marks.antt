@@ -2,16 +2,16 @@
 use Rattle.std.specs.Prelude.{◌≡◌, List, ℕ, ◌+◌, ◌*◌, get_or, set}
 use Rattle.std.specs.Int.Bits.{bit_or}
 use Rattle.context.specs.Objects.{Object}
-use Rattle.machine.specs.Checks.{State, firstFailing}
-use Rattle.machine.specs.Machine.{fill, checksOf}
+use Rattle.machine.specs.Checks.{State, first_failing}
+use Rattle.machine.specs.Machine.{fill, checks_of}
 use Rattle.size_checks.specs.declared.Verdict.{Verdict}
-use Rattle.size_checks.specs.Verdicts.{verdictOf}
+use Rattle.size_checks.specs.Verdicts.{verdict_of}
 pub mod Laws
 
 -- the verdict of checks 1 to 7, 32, 9, 33 and 11 of a filling of row k
 abbrev pub FillChecked : State → ℕ → Object → Verdict → Type 0
-FillChecked s k m v = verdictOf v ≡ firstFailing (checksOf s (fill k m))
+FillChecked s k m v = verdict_of v ≡ first_failing (checks_of s (fill k m))
 
 -- the words with the marks of m added to the two words of row k
 abbrev pub marked : List ℕ → ℕ → Object → List ℕ
-marked ws k m = set (set ws (k * 2) (bit_or (get_or ws (k * 2) 0) m.yes-marks)) (k * 2 + 1) (bit_or (get_or ws (k * 2 + 1) 0) m.no-marks)
+marked ws k m = set (set ws (k * 2) (bit_or (get_or ws (k * 2) 0) m.yes_marks)) (k * 2 + 1) (bit_or (get_or ws (k * 2 + 1) 0) m.no_marks)

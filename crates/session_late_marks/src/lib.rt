@@ -4,7 +4,7 @@ ghost use Rattle.std.specs.Prelude.{◌≡◌, ◌+◌, ◌*◌, ◌<◌, length
 ghost use Rattle.context.specs.Objects.{object};
 ghost use Rattle.machine.specs.Machine.{fill};
 ghost use Rattle.machine.specs.Calls.{given, Performs};
-ghost use Rattle.session_replies.specs.Answers.{replyAnswer};
+ghost use Rattle.session_replies.specs.Answers.{reply_answer};
 ghost use Rattle.session_late_marks.specs.Marks.{FillChecked, marked};
 
 // The checks of a filling: 1 to 7, then 32, 9, 33 and 11.
@@ -55,7 +55,7 @@ pub fn fill_row(
     yes: u64,
     no: u64,
 ) -> session_replies::Reply
-    ensures { Performs (fill row (object yes no)) session rows list background (replyAnswer result) session }
+    ensures { Performs (fill row (object yes no)) session rows list background (reply_answer result) session }
 {
     let verdict = check_fill(session, rows, list, background, row, yes, no);
     if let size_checks::Verdict::Refused(refusal) = verdict {

@@ -3,7 +3,7 @@
 ghost use Rattle.context.specs.Objects.{object};
 ghost use Rattle.machine.specs.Machine.{reject as rejecting};
 ghost use Rattle.machine.specs.Calls.{Turns};
-ghost use Rattle.session_replies.specs.Answers.{replyAnswer};
+ghost use Rattle.session_replies.specs.Answers.{reply_answer};
 
 // 01's no: the offered row, which refutes the standing question, becomes the next row. The test makes checks 1 to 7 for both.
 pub fn reject(
@@ -14,7 +14,7 @@ pub fn reject(
     yes: u64,
     no: u64,
 ) -> session_replies::Replied
-    ensures { Turns (rejecting (object yes no)) session rows list background (replyAnswer result.answer) result.session result.changed }
+    ensures { Turns (rejecting (object yes no)) session rows list background (reply_answer result.answer) result.session result.changed }
 {
     let tested = session_test::test_row(session, rows, list, background, yes, no);
     if let session_test::Testing::Refused(refusal) = tested {

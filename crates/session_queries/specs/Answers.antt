@@ -8,12 +8,12 @@ use Rattle.session_queries.specs.declared.Refuting.{Refuting}
 use Rattle.session_queries.specs.declared.Refuting.TheVariants.{By, Nothing, Refused as RefutingRefused}
 pub mod Laws
 
-abbrev pub followingAnswer : Following → Answer
-followingAnswer Follows = followed true
-followingAnswer Lacking = followed false
-followingAnswer (FollowingRefused r) = refused r
+abbrev pub following_answer : Following → Answer
+following_answer Follows = followed true
+following_answer Lacking = followed false
+following_answer (FollowingRefused r) = refused r
 
-abbrev pub refutingAnswer : Refuting → Answer
-refutingAnswer (By p) = refuted p
-refutingAnswer Nothing = unrefuted
-refutingAnswer (RefutingRefused r) = refused r
+abbrev pub refuting_answer : Refuting → Answer
+refuting_answer (By p) = refuted p
+refuting_answer Nothing = unrefuted
+refuting_answer (RefutingRefused r) = refused r

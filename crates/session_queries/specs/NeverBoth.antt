@@ -6,10 +6,10 @@ use Rattle.theory.specs.Implications.{Implication}
 use Rattle.implication.specs.Closure.{implication}
 use Rattle.machine.specs.Checks.{State}
 use Rattle.machine.specs.Machine.{follow, refute, perform}
-use Rattle.demands.specs.ShownResults.Laws.{never-said-both}
+use Rattle.demands.specs.ShownResults.Laws.{never_said_both}
 use Rattle.machine.specs.Calls.{state_of}
 use Rattle.session.specs.declared.Session.{Session}
-use Rattle.session_queries.specs.Answers.{followingAnswer, refutingAnswer}
+use Rattle.session_queries.specs.Answers.{following_answer, refuting_answer}
 use Rattle.session_queries.specs.declared.Following.{Following}
 use Rattle.session_queries.specs.declared.Following.TheVariants.{Follows}
 use Rattle.session_queries.specs.declared.Refuting.{Refuting}
@@ -22,7 +22,7 @@ module _ (session : Session) (rows list background : List ℕ) (premise conclusi
   abbrev rule : Implication ℕ
   rule = implication premise conclusion
 
-  pub never-both-answered : (following : Following) (refuting : Refuting) → followingAnswer following ≡ (perform given (follow rule)).answer
-      → refutingAnswer refuting ≡ (perform given (refute rule)).answer → following ≡ Follows → (row : ℕ) → refuting ≡ By row → ⊥
+  pub never-both-answered : (following : Following) (refuting : Refuting) → following_answer following ≡ (perform given (follow rule)).answer
+      → refuting_answer refuting ≡ (perform given (refute rule)).answer → following ≡ Follows → (row : ℕ) → refuting ≡ By row → ⊥
   never-both-answered following refuting e f a row b =
-      never-said-both given rule row (sym e ∙ ap followingAnswer a) (sym f ∙ ap refutingAnswer b)
+      never_said_both given rule row (sym e ∙ ap following_answer a) (sym f ∙ ap refuting_answer b)

@@ -3,7 +3,7 @@
 ghost use Rattle.implication.specs.Closure.{implication};
 ghost use Rattle.machine.specs.Machine.{follow, refute};
 ghost use Rattle.machine.specs.Calls.{Performs};
-ghost use Rattle.session_queries.specs.Answers.{followingAnswer, refutingAnswer};
+ghost use Rattle.session_queries.specs.Answers.{following_answer, refuting_answer};
 
 #[derive(Drop)]
 pub enum Following {
@@ -28,7 +28,7 @@ pub fn follows(
     premise: u64,
     conclusion: u64,
 ) -> Following
-    ensures { Performs (follow (implication premise conclusion)) session rows list background (followingAnswer result) session }
+    ensures { Performs (follow (implication premise conclusion)) session rows list background (following_answer result) session }
 {
     let rules = session.rules;
     let verdict = session_checks::check_session(
@@ -52,7 +52,7 @@ pub fn refuted(
     premise: u64,
     conclusion: u64,
 ) -> Refuting
-    ensures { Performs (refute (implication premise conclusion)) session rows list background (refutingAnswer result) session }
+    ensures { Performs (refute (implication premise conclusion)) session rows list background (refuting_answer result) session }
 {
     let used = session.rows;
     let verdict = session_checks::check_session(

@@ -9,10 +9,10 @@ use Rattle.session_replies.specs.declared.Reply.TheVariants.{Taken, Refused}
 use Rattle.session_replies.specs.declared.Replied.{Replied}
 pub mod Laws
 
-abbrev pub replyAnswer : Reply → Answer
-replyAnswer Taken = taken
-replyAnswer (Refused r) = refused r
+abbrev pub reply_answer : Reply → Answer
+reply_answer Taken = taken
+reply_answer (Refused r) = refused r
 
 -- a refusal: the record as it was
-abbrev pub refusedWith : Session → Refusal → Replied
-refusedWith s r = record { answer = Refused r; session = s; changed = false }
+abbrev pub refused_with : Session → Refusal → Replied
+refused_with s r = record { answer = Refused r; session = s; changed = false }

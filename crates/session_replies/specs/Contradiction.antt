@@ -11,39 +11,39 @@ use Rattle.demands.specs.Replies.{agreed, offered}
 use Rattle.demands.specs.Demand2.{Refused11, Contradictory, ContradictoryFilled, YesUpTo11, NoUpTo11, FilingUpTo11, FillUpTo11}
 use Rattle.demands.specs.Demand2.Theorem.{demand-2}
 use Rattle.machine.specs.Calls.{state_of}
-use Rattle.session_replies.specs.Answers.{replyAnswer}
+use Rattle.session_replies.specs.Answers.{reply_answer}
 use Rattle.session.specs.declared.Session.{Session}
 use Rattle.session_replies.specs.declared.Reply.{Reply}
 
 -- the answer is a refusal with 11, at some place
 abbrev pub Says11 : Reply → Type 0
-Says11 answer = (p : ℕ) × (replyAnswer answer ≡ refused (record { number = 11; place = p }))
+Says11 answer = (p : ℕ) × (reply_answer answer ≡ refused (record { number = 11; place = p }))
 
 module _ (session : Session) (rows list background : List ℕ) (answer : Reply) where
   abbrev before : State
   before = state_of session rows list background
 
   -- what the machine's answer says, the call's answer says
-  by_answer : (c : Call) {X : Type 0} → replyAnswer answer ≡ (perform before c).answer → Refused11 before c ↔ X → Says11 answer ↔ X
+  by_answer : (c : Call) {X : Type 0} → reply_answer answer ≡ (perform before c).answer → Refused11 before c ↔ X → Says11 answer ↔ X
   by_answer c e i = (λ (p, h). i.0 (p, sym e ∙ h), λ h. let t = i.1 h in (t.0, e ∙ t.1))
 
-  pub accept-contradiction : replyAnswer answer ≡ (perform before accept).answer → YesUpTo11 before
+  pub accept-contradiction : reply_answer answer ≡ (perform before accept).answer → YesUpTo11 before
       → Says11 answer ↔ Contradictory before (agreed (question before))
-  accept-contradiction e up = by_answer accept e (demand-2.yes-call before up)
+  accept-contradiction e up = by_answer accept e (demand-2.yes_call before up)
 
-  module _ (yes-marks no-marks : ℕ) where
+  module _ (yes_marks no_marks : ℕ) where
     abbrev row : Object
-    row = object yes-marks no-marks
+    row = object yes_marks no_marks
 
-    pub reject-contradiction : replyAnswer answer ≡ (perform before (reject row)).answer → NoUpTo11 before row
+    pub reject-contradiction : reply_answer answer ≡ (perform before (reject row)).answer → NoUpTo11 before row
         → Says11 answer ↔ Contradictory before (offered row)
     reject-contradiction e up = by_answer (reject row) e (demand-2.no_call before row up)
 
-    pub filing-contradiction : replyAnswer answer ≡ (perform before (file row)).answer → FilingUpTo11 before row
+    pub filing-contradiction : reply_answer answer ≡ (perform before (file row)).answer → FilingUpTo11 before row
         → Says11 answer ↔ Contradictory before (offered row)
     filing-contradiction e up = by_answer (file row) e (demand-2.filing before row up)
 
     -- of a filling of row k
-    pub filling-contradiction : (k : ℕ) → replyAnswer answer ≡ (perform before (fill k row)).answer → FillUpTo11 before k row
+    pub filling-contradiction : (k : ℕ) → reply_answer answer ≡ (perform before (fill k row)).answer → FillUpTo11 before k row
         → Says11 answer ↔ ContradictoryFilled before k row
     filling-contradiction k e up = by_answer (fill k row) e (demand-2.filling before k row up)

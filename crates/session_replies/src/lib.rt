@@ -1,6 +1,6 @@
 // What a reply to the standing question of a session gives back, by value, and a filing too: the answer and the record.
 ghost use Rattle.std.specs.Prelude.{◌≡◌};
-ghost use Rattle.session_replies.specs.Answers.{refusedWith};
+ghost use Rattle.session_replies.specs.Answers.{refused_with};
 
 #[derive(Drop)]
 pub enum Reply {
@@ -18,7 +18,7 @@ pub struct Replied {
 
 // A refusal gives the record back as it was.
 pub fn refused(session: session::Session, refusal: session::Refusal) -> Replied
-    ensures { result ≡ refusedWith session refusal }
+    ensures { result ≡ refused_with session refusal }
 {
     Replied {
         answer: Reply::Refused(refusal),

@@ -6,8 +6,8 @@ use Rattle.session_steps.specs.declared.Step.{Step}
 use Rattle.session_steps.specs.declared.Step.TheVariants.{Finished, Moved, Asked, Refused as StepRefused}
 pub mod Laws
 
-abbrev pub stepAnswer : Step → Answer
-stepAnswer Finished = finished
-stepAnswer Moved = moved
-stepAnswer (Asked q) = asked (implication q.premise q.conclusion)
-stepAnswer (StepRefused r) = refused r
+abbrev pub step_answer : Step → Answer
+step_answer Finished = finished
+step_answer Moved = moved
+step_answer (Asked q) = asked (implication q.premise q.conclusion)
+step_answer (StepRefused r) = refused r

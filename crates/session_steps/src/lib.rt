@@ -2,7 +2,7 @@
 // writes none of the words, and gives the record back.
 ghost use Rattle.machine.specs.Machine.{step as stepping};
 ghost use Rattle.machine.specs.Calls.{Turns};
-ghost use Rattle.session_steps.specs.Answers.{stepAnswer};
+ghost use Rattle.session_steps.specs.Answers.{step_answer};
 
 #[derive(Drop)]
 pub enum Step {
@@ -27,7 +27,7 @@ pub fn make_step(
     list: &[u64],
     background: &[u64],
 ) -> Stepped
-    ensures { Turns stepping session rows list background (stepAnswer result.answer) result.session result.changed }
+    ensures { Turns stepping session rows list background (step_answer result.answer) result.session result.changed }
 {
     let standing = standing::find_standing(session, rows, list, background);
     match standing {

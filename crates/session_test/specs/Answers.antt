@@ -4,6 +4,6 @@ use Rattle.machine.specs.Machine.{Answer, refuting, refused}
 use Rattle.session_test.specs.declared.Testing.{Testing}
 use Rattle.session_test.specs.declared.Testing.TheVariants.{Refutes, Refused}
 
-abbrev pub testingAnswer : Testing → Answer
-testingAnswer Refutes = refuting
-testingAnswer (Refused r) = refused r
+abbrev pub testing_answer : Testing → Answer
+testing_answer Refutes = refuting
+testing_answer (Refused r) = refused r

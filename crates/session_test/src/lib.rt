@@ -3,7 +3,7 @@
 ghost use Rattle.context.specs.Objects.{object};
 ghost use Rattle.machine.specs.Machine.{test};
 ghost use Rattle.machine.specs.Calls.{Performs};
-ghost use Rattle.session_test.specs.Answers.{testingAnswer};
+ghost use Rattle.session_test.specs.Answers.{testing_answer};
 
 #[derive(Drop)]
 pub enum Testing {
@@ -20,7 +20,7 @@ pub fn test_row(
     yes: u64,
     no: u64,
 ) -> Testing
-    ensures { Performs (test (object yes no)) session rows list background (testingAnswer result) session }
+    ensures { Performs (test (object yes no)) session rows list background (testing_answer result) session }
 {
     let asking = reply_checks::check_test(session, rows, list, background, yes, no);
     if let reply_checks::Asking::Refused(refusal) = asking {

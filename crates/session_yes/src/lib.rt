@@ -2,7 +2,7 @@
 // words), makes its checks, writes the rule, and gives the record back.
 ghost use Rattle.machine.specs.Machine.{accept as accepting};
 ghost use Rattle.machine.specs.Calls.{Turns};
-ghost use Rattle.session_replies.specs.Answers.{replyAnswer};
+ghost use Rattle.session_replies.specs.Answers.{reply_answer};
 
 // 01's yes: the standing question becomes the next rule of the list, and the current set the next closed set.
 pub fn accept(
@@ -11,7 +11,7 @@ pub fn accept(
     list: &mut [u64],
     background: &[u64],
 ) -> session_replies::Replied
-    ensures { Turns accepting session rows list background (replyAnswer result.answer) result.session result.changed }
+    ensures { Turns accepting session rows list background (reply_answer result.answer) result.session result.changed }
 {
     let n = session.n;
     let rules = session.rules;

@@ -8,18 +8,18 @@ pub mod Laws
 pub mod Theorem
 
 -- attribute i with each one above it and below k, the highest first
-unfoldable pub pairsWith : ℕ → ℕ → List ℕ
-pairsWith i zero = []
-pairsWith i (suc j) = elim (ltb i j) [ true ↦ (2 ^ i + 2 ^ j) ∷ pairsWith i j | false ↦ [] ]
+unfoldable pub pairs_with : ℕ → ℕ → List ℕ
+pairs_with i zero = []
+pairs_with i (suc j) = elim (ltb i j) [ true ↦ (2 ^ i + 2 ^ j) ∷ pairs_with i j | false ↦ [] ]
 
 -- of n attributes, for each one below k, the highest first: the attribute alone, then with each one above it
-unfoldable pub premisesBelow : ℕ → ℕ → List ℕ
-premisesBelow n zero = []
-premisesBelow n (suc i) = 2 ^ i ∷ (pairsWith i n ++ premisesBelow n i)
+unfoldable pub premises_below : ℕ → ℕ → List ℕ
+premises_below n zero = []
+premises_below n (suc i) = 2 ^ i ∷ (pairs_with i n ++ premises_below n i)
 
 -- of n attributes, all
 abbrev pub premises : ℕ → List ℕ
-premises n = premisesBelow n n
+premises n = premises_below n n
 
 -- ---- what the list is
 
@@ -28,7 +28,7 @@ pub record OneOrTwo (s : ℕ) : Type 0 where
   pub one : ℕ
   pub another : ℕ
   pub has_one : In one s
-  pub has-another : In another s
+  pub has_another : In another s
   pub no_third : (k : ℕ) → In k s → (k ≡ one) ⊎ (k ≡ another)
 
 -- the list has all sets of M with one or two attributes and no others, each once, in the lectic order

@@ -3,7 +3,7 @@ ghost use Rattle.std.specs.Prelude.{◌≡◌};
 ghost use Rattle.std.proofs.Math.Option.{some};
 ghost use Rattle.session.specs.Refusals.{refusal};
 ghost use Rattle.machine.specs.Calls.{given};
-ghost use Rattle.size_checks.specs.Verdicts.{verdictOf, Sizes};
+ghost use Rattle.size_checks.specs.Verdicts.{verdict_of, Sizes};
 
 // Whether checks pass, or the refusal of the first that fails.
 #[derive(Drop)]
@@ -14,7 +14,7 @@ pub enum Verdict {
 
 // The verdict of a check that fails.
 pub fn refused(number: u64, place: usize) -> Verdict
-    ensures { verdictOf result ≡ some (refusal number place) }
+    ensures { verdict_of result ≡ some (refusal number place) }
 {
     Verdict::Refused(session::refuse(number, place))
 }

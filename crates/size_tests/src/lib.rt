@@ -1,10 +1,10 @@
 // The tests of checks 1 to 3 of document 01: of the number of attributes, the lent lengths, and the rows and rules in use.
 ghost use Rattle.std.specs.Prelude.{◌≡◌, ◌||◌, ◌/◌, eqb, ltb};
-ghost use Rattle.session.specs.Limits.{mostAttributes, mostObjects, mostImplications, badLength};
+ghost use Rattle.session.specs.Limits.{most_attributes, most_objects, most_implications, bad_length};
 
 // A lent length is odd, or above its limit.
 pub fn bad_length(words: usize, most: usize) -> bool
-    ensures { result ≡ badLength most words }
+    ensures { result ≡ bad_length most words }
 {
     if words % 2 != 0 {
         return true;
@@ -14,7 +14,7 @@ pub fn bad_length(words: usize, most: usize) -> bool
 
 // Some lent length is bad.
 pub fn bad_lengths(rows: usize, list: usize, background: usize) -> bool
-    ensures { result ≡ (badLength mostObjects rows || (badLength mostImplications list || badLength mostImplications background)) }
+    ensures { result ≡ (bad_length most_objects rows || (bad_length most_implications list || bad_length most_implications background)) }
 {
     if bad_length(rows, session::Session::ROWS) {
         return true;
@@ -27,7 +27,7 @@ pub fn bad_lengths(rows: usize, list: usize, background: usize) -> bool
 
 // No attributes, or more than a session has.
 pub fn bad_count(n: usize) -> bool
-    ensures { result ≡ (eqb n 0 || ltb mostAttributes n) }
+    ensures { result ≡ (eqb n 0 || ltb most_attributes n) }
 {
     if n == 0 {
         return true;

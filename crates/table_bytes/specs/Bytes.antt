@@ -4,27 +4,27 @@ use Rattle.table_bytes.specs.declared.ByteKind.{ByteKind}
 use Rattle.table_bytes.specs.declared.ByteKind.TheVariants.{Digit, Mark, Known}
 pub mod Laws
 
-abbrev pub isDigit : ℕ → Bool
-isDigit b = leb 48 b && leb b 57
+abbrev pub is_digit : ℕ → Bool
+is_digit b = leb 48 b && leb b 57
 
 -- `X` or `x` is yes, `.` no, `?` unknown
 abbrev pub is_yes : ℕ → Bool
 is_yes b = eqb b 88 || eqb b 120
 
-abbrev pub isNo : ℕ → Bool
-isNo b = eqb b 46
+abbrev pub is_no : ℕ → Bool
+is_no b = eqb b 46
 
-abbrev pub isUnknown : ℕ → Bool
-isUnknown b = eqb b 63
+abbrev pub is_unknown : ℕ → Bool
+is_unknown b = eqb b 63
 
-abbrev pub isMark : ℕ → Bool
-isMark b = is_yes b || (isNo b || isUnknown b)
+abbrev pub is_mark : ℕ → Bool
+is_mark b = is_yes b || (is_no b || is_unknown b)
 
 -- what is asked of a byte: to be a digit, a mark, or no unknown mark
-abbrev pub isKnown : ℕ → Bool
-isKnown b = not (isUnknown b)
+abbrev pub is_known : ℕ → Bool
+is_known b = not (is_unknown b)
 
 abbrev pub passes : ByteKind → ℕ → Bool
-passes Digit = isDigit
-passes Mark = isMark
-passes Known = isKnown
+passes Digit = is_digit
+passes Mark = is_mark
+passes Known = is_known

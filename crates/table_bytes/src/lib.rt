@@ -1,6 +1,6 @@
 // The bytes of a table file: digits and marks.
 ghost use Rattle.std.specs.Prelude.{◌≡◌};
-ghost use Rattle.table_bytes.specs.Bytes.{isDigit, is_yes, isNo, isUnknown, isMark, passes};
+ghost use Rattle.table_bytes.specs.Bytes.{is_digit, is_yes, is_no, is_unknown, is_mark, passes};
 
 // What is asked of a byte: to be a digit, a mark, or no unknown mark.
 #[derive(Drop)]
@@ -11,7 +11,7 @@ pub enum ByteKind {
 }
 
 fn is_digit(b: u8) -> bool
-    ensures { result ≡ isDigit b }
+    ensures { result ≡ is_digit b }
 {
     match b {
         b'0'..=b'9' => true,
@@ -30,7 +30,7 @@ pub fn is_yes(b: u8) -> bool
 }
 
 pub fn is_no(b: u8) -> bool
-    ensures { result ≡ isNo b }
+    ensures { result ≡ is_no b }
 {
     match b {
         b'.' => true,
@@ -39,7 +39,7 @@ pub fn is_no(b: u8) -> bool
 }
 
 fn is_unknown(b: u8) -> bool
-    ensures { result ≡ isUnknown b }
+    ensures { result ≡ is_unknown b }
 {
     match b {
         b'?' => true,
@@ -48,7 +48,7 @@ fn is_unknown(b: u8) -> bool
 }
 
 fn is_mark(b: u8) -> bool
-    ensures { result ≡ isMark b }
+    ensures { result ≡ is_mark b }
 {
     match b {
         b'X' => true, // yes

@@ -1,12 +1,12 @@
 // The count lines of a table file: 1 to 4 digits, and the count that they are.
 ghost use Rattle.std.specs.Prelude.{◌≡◌, true, ◌≤◌, length};
-ghost use Rattle.table_bytes.specs.Bytes.{isDigit};
+ghost use Rattle.table_bytes.specs.Bytes.{is_digit};
 ghost use Rattle.line_bytes.specs.Everywhere.{everywhere};
-ghost use Rattle.table_counts.specs.Counts.{decimalFrom, isCount, countOf};
+ghost use Rattle.table_counts.specs.Counts.{decimal_from, is_count, count_of};
 
 // 1 to 4 digits.
 pub fn is_count(line: &[u8]) -> bool
-    ensures { result ≡ isCount line.now }
+    ensures { result ≡ is_count line.now }
 {
     let size = line.len();
     if size == 0 {
@@ -20,8 +20,8 @@ pub fn is_count(line: &[u8]) -> bool
 
 // The number of at most 4 digits.
 fn decimal(line: &[u8]) -> usize
-    requires { (length line.now ≤ 4) × (everywhere isDigit line.now ≡ true) }
-    ensures { result ≡ decimalFrom 0 line.now }
+    requires { (length line.now ≤ 4) × (everywhere is_digit line.now ≡ true) }
+    ensures { result ≡ decimal_from 0 line.now }
 {
     let mut n = 0;
     let mut i = 0;
@@ -34,7 +34,7 @@ fn decimal(line: &[u8]) -> usize
 
 // The count of a count line; 0 where it is none.
 pub fn count_of(line: &[u8]) -> usize
-    ensures { result ≡ countOf line.now }
+    ensures { result ≡ count_of line.now }
 {
     if !is_count(line) {
         return 0;

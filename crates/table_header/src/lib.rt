@@ -1,9 +1,9 @@
 // The first five lines of a table file, and the counts in its third and fourth line. An object is 01's row, an attribute its property.
 ghost use Rattle.std.specs.Prelude.{◌≡◌, ◌≤◌, length};
 ghost use Rattle.table_lines.specs.Lines.{bytes_at};
-ghost use Rattle.table_counts.specs.Counts.{countOf};
+ghost use Rattle.table_counts.specs.Counts.{count_of};
 ghost use Rattle.line_walk.specs.Walk.{walk};
-ghost use Rattle.table_header.specs.Header.{objectCount, attributeCount, header};
+ghost use Rattle.table_header.specs.Header.{object_count, attribute_count, header};
 
 use line_walk::Walk;
 use table_kinds::Kind;
@@ -22,7 +22,7 @@ pub fn walk_header(file: &[u8]) -> Walk
 // The count of the line at an offset; 0 where it is no count.
 fn count_at(file: &[u8], at: usize) -> usize
     requires { at ≤ length file.now }
-    ensures { result ≡ countOf (bytes_at file.now at) }
+    ensures { result ≡ count_of (bytes_at file.now at) }
 {
     let line = line_ends::line_at(file, at);
     let end = at + line.size;
@@ -31,7 +31,7 @@ fn count_at(file: &[u8], at: usize) -> usize
 
 // The count of objects, in the third line.
 pub fn object_count(file: &[u8]) -> usize
-    ensures { result ≡ objectCount file.now }
+    ensures { result ≡ object_count file.now }
 {
     let title_at = line_ends::next_at(file, 0);
     count_at(file, line_ends::next_at(file, title_at))
@@ -39,7 +39,7 @@ pub fn object_count(file: &[u8]) -> usize
 
 // The count of attributes, in the fourth line.
 pub fn attribute_count(file: &[u8]) -> usize
-    ensures { result ≡ attributeCount file.now }
+    ensures { result ≡ attribute_count file.now }
 {
     let title_at = line_ends::next_at(file, 0);
     let objects_at = line_ends::next_at(file, title_at);

@@ -1,12 +1,12 @@
 // The interview of the complete table in a file (01: the program): beats until the last, each line written out when it is known.
 ghost use Rattle.std.specs.Prelude.{[], ◌*◌, ◌≤◌, length};
-ghost use Rattle.context.specs.Objects.{objectsOf};
+ghost use Rattle.context.specs.Objects.{objects_of};
 ghost use Rattle.machine.specs.Machine.{opening};
 ghost use Rattle.handed_output.specs.Handing.{Tells, Writes};
-ghost use Rattle.transcript.specs.Output.{interviewed, outputWith};
+ghost use Rattle.transcript.specs.Output.{interviewed, output_with};
 ghost use Rattle.transcript.specs.Core.Along.{Along};
 ghost use Rattle.interview_replies.specs.Holding.{holding, held};
-ghost use Rattle.table_interview.specs.Places.{lent, placesFor, Holds};
+ghost use Rattle.table_interview.specs.Places.{lent, places_for, Holds};
 ghost use Rattle.table_replies.specs.Reply.{tabled};
 ghost use Rattle.interview_beat.specs.Running.{remaining};
 
@@ -24,7 +24,7 @@ fn run_beats(
     fd: i32,
     before: handed_output::Handed,
 ) -> handed_output::Told
-    requires along { Along (objectsOf objects table.now) (holding start rows.old list.old) start.changes }
+    requires along { Along (objects_of objects table.now) (holding start rows.old list.old) start.changes }
     requires objects_in_bounds { objects * 2 ≤ length table.now }
     ensures { Tells out before result (remaining (tabled objects table) (held start rows list) start.changes) }
 {
@@ -84,7 +84,7 @@ pub fn hold(
     out: &mut [u8; OUTPUT_BYTES],
     fd: i32,
 ) -> handed_output::Told
-    ensures { Writes out result (outputWith (placesFor row_places rule_places) file.now) }
+    ensures { Writes out result (output_with (places_for row_places rule_places) file.now) }
 {
     let mut table = [0u64; session::Session::ROWS * 2];
     let mut rows = [0u64; session::Session::ROWS * 2];

@@ -10,28 +10,28 @@ use Rattle.table_layout.specs.declared.Layout.{Layout}
 use Rattle.table_layout.specs.declared.Opened.{Opened}
 use Rattle.table_layout.specs.declared.Opened.TheVariants.{Found, Refused}
 use Rattle.line_walk.specs.Walk.{walk}
-use Rattle.table_header.specs.Header.{objectCount, attributeCount, header}
-use Rattle.table_walk.specs.Walk.{placeOf, thenRest}
+use Rattle.table_header.specs.Header.{object_count, attribute_count, header}
+use Rattle.table_walk.specs.Walk.{place_of, then_rest}
 pub mod Laws
 pub mod Passed
 
 -- the most bytes of a table file
-abbrev pub mostBytes : ℕ
-mostBytes = 65535
+abbrev pub most_bytes : ℕ
+most_bytes = 65535
 
 -- a program reads so many bytes, one more than a file may have: a longer input gives what these give (`Laws`)
-abbrev pub inputMost : ℕ
-inputMost = suc mostBytes
+abbrev pub input_most : ℕ
+input_most = suc most_bytes
 
 -- the lines: the first five; the objects' names; the attributes' names; the lines of marks
-abbrev pub toAttributeNames : List ℕ → List Kind
-toAttributeNames file = header ++ replicate (objectCount file) Name
+abbrev pub to_attribute_names : List ℕ → List Kind
+to_attribute_names file = header ++ replicate (object_count file) Name
 
-abbrev pub toMarks : List ℕ → List Kind
-toMarks file = toAttributeNames file ++ replicate (attributeCount file) Name
+abbrev pub to_marks : List ℕ → List Kind
+to_marks file = to_attribute_names file ++ replicate (attribute_count file) Name
 
-abbrev pub toEnd : List ℕ → List Kind
-toEnd file = toMarks file ++ replicate (objectCount file) (Marks (attributeCount file))
+abbrev pub kinds_to_end : List ℕ → List Kind
+kinds_to_end file = to_marks file ++ replicate (object_count file) (Marks (attribute_count file))
 
 -- what an opened table keeps beside its file: the counts, and where the names of each kind and the marks begin
 abbrev pub layout : ℕ → ℕ → ℕ → ℕ → ℕ → Layout
@@ -45,18 +45,18 @@ layout objects attributes objectNames attributeNames marks = record {
 
 unfoldable pub layout_of : List ℕ → Layout
 layout_of file =
-    layout (objectCount file) (attributeCount file) (placeOf (walk header file 0)) (placeOf (walk (toAttributeNames file) file 0))
-    (placeOf (walk (toMarks file) file 0))
+    layout (object_count file) (attribute_count file) (place_of (walk header file 0)) (place_of (walk (to_attribute_names file) file 0))
+    (place_of (walk (to_marks file) file 0))
 
 -- what is found where the walk over the file ends, or fails
-abbrev pub openedFrom : Layout → Walk → Opened
-openedFrom l (At at) = Found l
-openedFrom l (Failed r) = Refused r
+abbrev pub opened_from : Layout → Walk → Opened
+opened_from l (At at) = Found l
+opened_from l (Failed r) = Refused r
 
 -- 21 first, by the length alone; then the first line that is refused; else the table
 unfoldable pub opened_of : List ℕ → Opened
 opened_of file =
-    elim (ltb mostBytes (length file)) [
-      | true ↦ Refused (refusal 21 mostBytes)
-      | false ↦ openedFrom (layout_of file) (thenRest file (walk (toEnd file) file 0))
+    elim (ltb most_bytes (length file)) [
+      | true ↦ Refused (refusal 21 most_bytes)
+      | false ↦ opened_from (layout_of file) (then_rest file (walk (kinds_to_end file) file 0))
     ]

@@ -1,7 +1,7 @@
 // The layout of Burmeister's table file: its lines in order, and what an opened table keeps. An object is 01's row, an attribute its
 // property.
 ghost use Rattle.std.specs.Prelude.{◌≡◌};
-ghost use Rattle.table_layout.specs.Layout.{openedFrom, opened_of};
+ghost use Rattle.table_layout.specs.Layout.{opened_from, opened_of};
 
 use line_walk::Walk;
 use table_kinds::Kind;
@@ -34,7 +34,7 @@ pub enum Opened {
 
 // What a walk over all the lines gives: the layout, or the first line that is refused.
 fn opened_from(layout: Layout, walked: Walk) -> Opened
-    ensures { result ≡ openedFrom layout walked }
+    ensures { result ≡ opened_from layout walked }
 {
     match walked {
         Walk::At(_) => Opened::Found(layout),

@@ -4,16 +4,16 @@ use Rattle.std.specs.Prelude.{◌≡◌, Bool, true, false, ◌⊎◌, List, [],
 use Rattle.table_lines.specs.declared.Line.{Line}
 pub mod Laws
 
-abbrev pub lineFeed : ℕ
-lineFeed = 10
+abbrev pub line_feed : ℕ
+line_feed = 10
 
-abbrev pub carriageReturn : ℕ
-carriageReturn = 13
+abbrev pub carriage_return : ℕ
+carriage_return = 13
 
 -- the bytes begin with a line feed
 abbrev pub feeds : List ℕ → Bool
 feeds [] = false
-feeds (b ∷ bs) = eqb b lineFeed
+feeds (b ∷ bs) = eqb b line_feed
 
 -- how many bytes a line end has that begins with a carriage return, by the bytes behind that
 abbrev pub returned : List ℕ → ℕ
@@ -22,16 +22,16 @@ returned bs = elim (feeds bs) [ true ↦ 2 | false ↦ 1 ]
 -- how many bytes the line end has that the bytes begin with; 0 where they begin with none
 abbrev pub end_of : List ℕ → ℕ
 end_of [] = 0
-end_of (b ∷ bs) = elim (eqb b lineFeed) [ true ↦ 1 | false ↦ elim (eqb b carriageReturn) [ true ↦ returned bs | false ↦ 0 ] ]
+end_of (b ∷ bs) = elim (eqb b line_feed) [ true ↦ 1 | false ↦ elim (eqb b carriage_return) [ true ↦ returned bs | false ↦ 0 ] ]
 
 -- a line's end, before the bytes behind it: a line feed; a carriage return and a line feed; a carriage return alone, with no line feed
 -- behind it
 abbrev pub IsEnd : List ℕ → List ℕ → Type 0
-IsEnd e behind = (e ≡ lineFeed ∷ []) ⊎ ((e ≡ carriageReturn ∷ lineFeed ∷ []) ⊎ ((e ≡ carriageReturn ∷ []) × (feeds behind ≡ false)))
+IsEnd e behind = (e ≡ line_feed ∷ []) ⊎ ((e ≡ carriage_return ∷ line_feed ∷ []) ⊎ ((e ≡ carriage_return ∷ []) × (feeds behind ≡ false)))
 
 -- a byte that is in no line's end
 abbrev pub NoEnd : ℕ → Type 0
-NoEnd b = (b ≡ lineFeed → ⊥) × (b ≡ carriageReturn → ⊥)
+NoEnd b = (b ≡ line_feed → ⊥) × (b ≡ carriage_return → ⊥)
 
 -- a line with this many bytes, and this many up to where the next one begins
 abbrev pub line : ℕ → ℕ → Line

@@ -21,22 +21,22 @@ abbrev pub piece_of : List ℕ → Piece
 piece_of bs = record { bytes = take (line_of bs).size bs; end = drop (line_of bs).size (take (line_of bs).step bs) }
 
 -- the lines with their ends, from the beginning on, at most k of them
-unfoldable pub piecesFrom : ℕ → List ℕ → List Piece
-piecesFrom zero bs = []
-piecesFrom (suc k) [] = []
-piecesFrom (suc k) (b ∷ bs) = piece_of (b ∷ bs) ∷ piecesFrom k (drop (line_of (b ∷ bs)).step (b ∷ bs))
+unfoldable pub pieces_from : ℕ → List ℕ → List Piece
+pieces_from zero bs = []
+pieces_from (suc k) [] = []
+pieces_from (suc k) (b ∷ bs) = piece_of (b ∷ bs) ∷ pieces_from k (drop (line_of (b ∷ bs)).step (b ∷ bs))
 
 -- the lines of a file with their ends
 abbrev pub pieces : List ℕ → List Piece
-pieces file = piecesFrom (length file) file
+pieces file = pieces_from (length file) file
 
 -- the bytes of each line, without its end
-abbrev pub withoutEnds : List Piece → List (List ℕ)
-withoutEnds = map (λ (p : Piece). p.bytes)
+abbrev pub without_ends : List Piece → List (List ℕ)
+without_ends = map (λ (p : Piece). p.bytes)
 
 -- the lines of a file: their bytes, without their ends
 abbrev pub lines_of : List ℕ → List (List ℕ)
-lines_of file = withoutEnds (pieces file)
+lines_of file = without_ends (pieces file)
 
 -- ---- what a line is
 

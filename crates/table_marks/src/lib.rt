@@ -1,6 +1,6 @@
 // The marks of a table file: each line of them as the two words of a row (an object), read into lent row words.
 ghost use Rattle.std.specs.Prelude.{◌≡◌, ◌*◌, ◌≤◌, ◌++◌, length, drop, replicate};
-ghost use Rattle.session.specs.Limits.{mostAttributes};
+ghost use Rattle.session.specs.Limits.{most_attributes};
 ghost use Rattle.table_kinds.specs.declared.Kind.TheVariants.{Marks};
 ghost use Rattle.table_layout.specs.declared.Layout.{Layout as LayoutT};
 ghost use Rattle.table_layout.specs.declared.Opened.TheVariants.{Found};
@@ -8,14 +8,14 @@ ghost use Rattle.line_walk.specs.Walk.{walk};
 ghost use Rattle.table_walk.specs.Walk.{Passes};
 ghost use Rattle.table_layout.specs.Layout.{opened_of};
 ghost use Rattle.table_rows.specs.Rows.{rows_from};
-ghost use Rattle.mark_reading.specs.Marks.{flat, readingFrom, reading, readingAs, rowWords, wordsRead};
-ghost use Rattle.mark_reading.specs.Marks.{completeReading, completeWordsRead};
+ghost use Rattle.mark_reading.specs.Marks.{flat, reading_from, reading, reading_as, words_of_rows, words_read};
+ghost use Rattle.mark_reading.specs.Marks.{complete_reading, complete_words_read};
 
 use table_layout::{Layout, Opened};
 
 // The mark reader: the part of the file that starts at the first line of marks, into row words that have place for its rows.
 fn read_rows(part: &[u8], count: usize, n: usize, rows: &mut [u64])
-    requires { (count * 2 ≤ length rows.old) × (n ≤ mostAttributes) × Passes (walk (replicate count (Marks n)) part.now 0) }
+    requires { (count * 2 ≤ length rows.old) × (n ≤ most_attributes) × Passes (walk (replicate count (Marks n)) part.now 0) }
     ensures { rows.new ≡ flat (rows_from count part.now 0) ++ drop (count * 2) rows.old }
 {
     let mut at = 0;
@@ -33,8 +33,8 @@ fn read_rows(part: &[u8], count: usize, n: usize, rows: &mut [u64])
 // The rows of a file that was opened, where the row words have place for them; nothing is written on a refusal.
 fn read_opened(file: &[u8], opened: Opened, rows: &mut [u64]) -> Opened
     requires { (l : LayoutT) → opened ≡ Found l → opened_of file.now ≡ Found l }
-    ensures answer { result ≡ readingFrom (length rows.old) opened }
-    ensures written { rows.new ≡ rowWords result file.now rows.old }
+    ensures answer { result ≡ reading_from (length rows.old) opened }
+    ensures written { rows.new ≡ words_of_rows result file.now rows.old }
 {
     let layout = match opened {
         Opened::Found(layout) => layout,
@@ -53,7 +53,7 @@ fn read_opened(file: &[u8], opened: Opened, rows: &mut [u64]) -> Opened
 // Reads the marks of a table file into lent row words; nothing is written unless everything passed.
 pub fn read_marks(file: &[u8], rows: &mut [u64]) -> Opened
     ensures answer { result ≡ reading (length rows.old) file.now }
-    ensures written { rows.new ≡ wordsRead file.now rows.old }
+    ensures written { rows.new ≡ words_read file.now rows.old }
 {
     if size_tests::bad_length(rows.len(), session::Session::ROWS) {
         return Opened::Refused(session::refuse(2, 0));
@@ -64,8 +64,8 @@ pub fn read_marks(file: &[u8], rows: &mut [u64]) -> Opened
 
 // Reads the marks of an opened table, its file and its layout, as `read_marks` does.
 pub fn read_marks_of(file: &[u8], layout: Layout, rows: &mut [u64]) -> Opened
-    ensures answer { result ≡ readingAs layout (length rows.old) file.now }
-    ensures written { rows.new ≡ rowWords result file.now rows.old }
+    ensures answer { result ≡ reading_as layout (length rows.old) file.now }
+    ensures written { rows.new ≡ words_of_rows result file.now rows.old }
 {
     if size_tests::bad_length(rows.len(), session::Session::ROWS) {
         return Opened::Refused(session::refuse(2, 0));
@@ -76,8 +76,8 @@ pub fn read_marks_of(file: &[u8], layout: Layout, rows: &mut [u64]) -> Opened
 
 // Reads the marks of a table file that has to be complete, as `read_marks` does.
 pub fn read_complete(file: &[u8], rows: &mut [u64]) -> Opened
-    ensures answer { result ≡ completeReading (length rows.old) file.now }
-    ensures written { rows.new ≡ completeWordsRead file.now rows.old }
+    ensures answer { result ≡ complete_reading (length rows.old) file.now }
+    ensures written { rows.new ≡ complete_words_read file.now rows.old }
 {
     if size_tests::bad_length(rows.len(), session::Session::ROWS) {
         return Opened::Refused(session::refuse(2, 0));

@@ -3,7 +3,7 @@
 use Rattle.std.specs.Prelude.{Bool, true, false, List, [], ◌∷◌, ℕ, zero, suc, ◌+◌, ◌*◌}
 use Rattle.table_lines.specs.Lines.{bytes_at, after}
 use Rattle.context.specs.Objects.{Object, object}
-use Rattle.table_bytes.specs.Bytes.{is_yes, isNo}
+use Rattle.table_bytes.specs.Bytes.{is_yes, is_no}
 pub mod Laws
 
 abbrev pub bit_of : Bool → ℕ
@@ -16,10 +16,10 @@ word_of f [] = 0
 word_of f (b ∷ bs) = word_of f bs * 2 + bit_of (f b)
 
 -- a row: the attributes marked yes, then those marked no
-abbrev pub rowOf : List ℕ → Object
-rowOf bs = object (word_of is_yes bs) (word_of isNo bs)
+abbrev pub row_of : List ℕ → Object
+row_of bs = object (word_of is_yes bs) (word_of is_no bs)
 
 -- the rows of count lines of marks, from an offset on
 unfoldable pub rows_from : ℕ → List ℕ → ℕ → List Object
 rows_from zero file at = []
-rows_from (suc k) file at = rowOf (bytes_at file at) ∷ rows_from k file (after file at)
+rows_from (suc k) file at = row_of (bytes_at file at) ∷ rows_from k file (after file at)

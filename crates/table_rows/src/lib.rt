@@ -1,9 +1,9 @@
 // The row (an object) of a line of marks: its two words.
 ghost use Rattle.std.specs.Prelude.{◌≡◌, ◌≤◌, length, take};
 ghost use Rattle.context.specs.Objects.{object};
-ghost use Rattle.session.specs.Limits.{mostAttributes};
-ghost use Rattle.table_bytes.specs.Bytes.{is_yes, isNo};
-ghost use Rattle.table_rows.specs.Rows.{bit_of, rowOf};
+ghost use Rattle.session.specs.Limits.{most_attributes};
+ghost use Rattle.table_bytes.specs.Bytes.{is_yes, is_no};
+ghost use Rattle.table_rows.specs.Rows.{bit_of, row_of};
 
 // The two words of a row.
 #[derive(Drop)]
@@ -24,7 +24,7 @@ fn yes_bit(b: u8) -> u64
 
 // 1 for a no mark, else 0.
 fn no_bit(b: u8) -> u64
-    ensures { result ≡ bit_of (isNo b) }
+    ensures { result ≡ bit_of (is_no b) }
 {
     if table_bytes::is_no(b) {
         return 1;
@@ -34,8 +34,8 @@ fn no_bit(b: u8) -> u64
 
 // The row of a line that has a mark for each attribute.
 fn row_of_marks(line: &[u8]) -> Row
-    requires { length line.now ≤ mostAttributes }
-    ensures { object result.yes result.no ≡ rowOf line.now }
+    requires { length line.now ≤ most_attributes }
+    ensures { object result.yes result.no ≡ row_of line.now }
 {
     let mut yes = 0;
     let mut no = 0;
@@ -50,7 +50,7 @@ fn row_of_marks(line: &[u8]) -> Row
 
 // The row of a line of marks; bytes past the most attributes are not read.
 pub fn row_of(line: &[u8]) -> Row
-    ensures { object result.yes result.no ≡ rowOf (take mostAttributes line.now) }
+    ensures { object result.yes result.no ≡ row_of (take most_attributes line.now) }
 {
     if session::Session::ATTRIBUTES < line.len() {
         return row_of_marks(&line[0..session::Session::ATTRIBUTES]);

@@ -1,16 +1,16 @@
 // The parts of the text of a table file, written into a lent buffer from an offset on; the answer is the offset behind them. An object
 // is 01's row, an attribute its property.
 ghost use Rattle.std.specs.Prelude.{[], ◌∷◌};
-ghost use Rattle.context.specs.Objects.{objectsOf};
+ghost use Rattle.context.specs.Objects.{objects_of};
 ghost use Rattle.context.specs.Objects.Laws.{whole};
 ghost use Rattle.text.specs.Page.{Puts};
-ghost use Rattle.marks_text.specs.Marks.{marksText};
+ghost use Rattle.marks_text.specs.Marks.{marks_text};
 ghost use Rattle.closed_lines.specs.Closed.{closed};
-ghost use Rattle.table_text.specs.Table.{headerLines, markLines};
+ghost use Rattle.table_text.specs.Table.{header_lines, mark_lines};
 
 // The first five lines: `B`, an empty title, the two counts, an empty line.
 pub fn put_header(out: &mut [u8], at: usize, objects: usize, attributes: usize) -> usize
-    ensures { Puts out at result (closed (headerLines objects attributes)) }
+    ensures { Puts out at result (closed (header_lines objects attributes)) }
 {
     let titled = text::put_bytes(out, at, b"B\n\n");
     let counted = closing_lines::put_number_then(out, titled, objects as u64, b'\n');
@@ -20,7 +20,7 @@ pub fn put_header(out: &mut [u8], at: usize, objects: usize, attributes: usize) 
 
 // The line of marks of a row.
 fn put_row(out: &mut [u8], at: usize, n: usize, yes: u64, no: u64) -> usize
-    ensures { Puts out at result (closed (marksText n yes no ∷ [])) }
+    ensures { Puts out at result (closed (marks_text n yes no ∷ [])) }
 {
     let marked = marks_text::put_marks(out, at, n, yes, no);
     text::put_byte(out, marked, b'\n')
@@ -28,7 +28,7 @@ fn put_row(out: &mut [u8], at: usize, n: usize, yes: u64, no: u64) -> usize
 
 // The lines of marks of the rows in use, as many of them as the slice has whole.
 pub fn put_rows(out: &mut [u8], at: usize, n: usize, rows: &[u64], used: usize) -> usize
-    ensures { Puts out at result (closed (markLines n (objectsOf (whole used rows.now) rows.now))) }
+    ensures { Puts out at result (closed (mark_lines n (objects_of (whole used rows.now) rows.now))) }
 {
     let count = closures::smaller(used, rows.len() / 2);
     let mut to = at;

@@ -12,9 +12,9 @@ pub mod Passed
 pub mod Lines
 
 -- a walk, and then more lines
-abbrev pub walkOn : Walk → List Kind → List ℕ → Walk
-walkOn (At at) ks file = walk ks file at
-walkOn (Failed r) ks file = Failed r
+abbrev pub walk_on : Walk → List Kind → List ℕ → Walk
+walk_on (At at) ks file = walk ks file at
+walk_on (Failed r) ks file = Failed r
 
 -- after the last line needed: the first line that is not empty, at most k lines
 unfoldable pub rest : ℕ → List ℕ → ℕ → Walk
@@ -26,14 +26,14 @@ rest (suc k) file at =
     ]
 
 -- the lines needed, then empty lines alone
-abbrev pub thenRest : List ℕ → Walk → Walk
-thenRest file (At at) = rest (length file) file at
-thenRest file (Failed r) = Failed r
+abbrev pub then_rest : List ℕ → Walk → Walk
+then_rest file (At at) = rest (length file) file at
+then_rest file (Failed r) = Failed r
 
 -- where a walk ends, or where it failed
-abbrev pub placeOf : Walk → ℕ
-placeOf (At at) = at
-placeOf (Failed r) = r.place
+abbrev pub place_of : Walk → ℕ
+place_of (At at) = at
+place_of (Failed r) = r.place
 
 -- no line of a walk is refused
 abbrev pub Passes : Walk → Type 0

@@ -1,13 +1,13 @@
 // The lines of a table file in order: the first one that is refused, or where they end.
 ghost use Rattle.std.specs.Prelude.{◌≡◌, length, replicate};
-ghost use Rattle.table_walk.specs.Walk.{walkOn, rest, thenRest, placeOf};
+ghost use Rattle.table_walk.specs.Walk.{walk_on, rest, then_rest, place_of};
 
 use line_walk::Walk;
 use table_kinds::Kind;
 
 // After a walk, so many lines of a kind.
 pub fn walk_lines(file: &[u8], walked: Walk, kind: Kind, count: usize) -> Walk
-    ensures { result ≡ walkOn walked (replicate count kind) file.now }
+    ensures { result ≡ walk_on walked (replicate count kind) file.now }
 {
     let mut w = walked;
     let mut i = 0;
@@ -42,7 +42,7 @@ fn rest_of(file: &[u8], at: usize) -> Walk
 
 // After the lines needed, empty lines alone.
 pub fn walk_rest(file: &[u8], walked: Walk) -> Walk
-    ensures { result ≡ thenRest file.now walked }
+    ensures { result ≡ then_rest file.now walked }
 {
     match walked {
         Walk::At(at) => rest_of(file, at),
@@ -52,7 +52,7 @@ pub fn walk_rest(file: &[u8], walked: Walk) -> Walk
 
 // Where a walk ended, or where it failed.
 pub fn place_of(walked: Walk) -> usize
-    ensures { result ≡ placeOf walked }
+    ensures { result ≡ place_of walked }
 {
     match walked {
         Walk::At(at) => at,

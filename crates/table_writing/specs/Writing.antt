@@ -7,12 +7,12 @@ use Rattle.table_kinds.specs.declared.Kind.TheVariants.{Name}
 use Rattle.line_walk.specs.declared.Walk.{Walk}
 use Rattle.line_walk.specs.declared.Walk.TheVariants.{Failed, At}
 use Rattle.line_walk.specs.Walk.{walk}
-use Rattle.table_walk.specs.Walk.{placeOf}
-use Rattle.table_layout.specs.Layout.{mostBytes}
+use Rattle.table_walk.specs.Walk.{place_of}
+use Rattle.table_layout.specs.Layout.{most_bytes}
 use Rattle.text.specs.Page.{Buffer}
-use Rattle.machine.specs.Checks.{Check, check, firstFailing}
+use Rattle.machine.specs.Checks.{Check, check, first_failing}
 use Rattle.machine.specs.Calls.{Words}
-use Rattle.row_checks.specs.Rows.{rowChecks}
+use Rattle.row_checks.specs.Rows.{row_checks}
 use Rattle.table_text.specs.Table.{text_of}
 use Rattle.table_writing.specs.declared.Written.{Written}
 use Rattle.table_writing.specs.declared.Written.TheVariants.{Bytes, Refused}
@@ -21,31 +21,31 @@ pub mod Names
 pub mod Places
 
 -- the names needed, in order: the first that is missing, empty or too long, or where they end
-abbrev pub namesWalk : ℕ → ℕ → List ℕ → Walk
-namesWalk n used names = walk (replicate (used + n) Name) names 0
+abbrev pub names_walk : ℕ → ℕ → List ℕ → Walk
+names_walk n used names = walk (replicate (used + n) Name) names 0
 
-abbrev pub isFailed : Walk → Bool
-isFailed (At at) = false
-isFailed (Failed r) = true
+abbrev pub is_failed : Walk → Bool
+is_failed (At at) = false
+is_failed (Failed r) = true
 
 -- a text of so many bytes is longer than a table file, or than a lent output
-abbrev pub isLong : ℕ → ℕ → Bool
-isLong room size = ltb mostBytes size || ltb room size
+abbrev pub is_long : ℕ → ℕ → Bool
+is_long room size = ltb most_bytes size || ltb room size
 
 -- the checks in their order, for a lent output of so many bytes: 1 to 5; a bad name, at its offset in the lent names; a text that is too long
-unfoldable pub writeChecks : ℕ → ℕ → List ℕ → List ℕ → ℕ → List Check
-writeChecks n used words names room =
-    rowChecks n used words
-    ++ (check 26 (isFailed (namesWalk n used names)) (placeOf (namesWalk n used names))
-    ∷ check 30 (isLong room (length (text_of n used words names))) 0
+unfoldable pub write_checks : ℕ → ℕ → List ℕ → List ℕ → ℕ → List Check
+write_checks n used words names room =
+    row_checks n used words
+    ++ (check 26 (is_failed (names_walk n used names)) (place_of (names_walk n used names))
+    ∷ check 30 (is_long room (length (text_of n used words names))) 0
     ∷ [])
 
 -- the checks before 26 pass, and 26 does
 abbrev pub RowsPass : ℕ → ℕ → List ℕ → Type 0
-RowsPass n used words = firstFailing (rowChecks n used words) ≡ none
+RowsPass n used words = first_failing (row_checks n used words) ≡ none
 
 abbrev pub NamesPass : ℕ → ℕ → List ℕ → Type 0
-NamesPass n used names = isFailed (namesWalk n used names) ≡ false
+NamesPass n used names = is_failed (names_walk n used names) ≡ false
 
 -- the number of bytes, or the first check that fails
 abbrev pub written_by : Option Refusal → ℕ → Written
@@ -54,17 +54,17 @@ written_by (some r) size = Refused r
 
 abbrev pub writing : ℕ → ℕ → List ℕ → List ℕ → ℕ → Written
 writing n used words names room =
-    written_by (firstFailing (writeChecks n used words names room)) (length (text_of n used words names))
+    written_by (first_failing (write_checks n used words names room)) (length (text_of n used words names))
 
 -- the output then: the text, and behind it the bytes that were there; on a refusal every byte that was there
-abbrev pub outputAfter : Written → List ℕ → List ℕ → List ℕ
-outputAfter (Bytes size) text out = text ++ drop size out
-outputAfter (Refused r) text out = out
+abbrev pub output_after : Written → List ℕ → List ℕ → List ℕ
+output_after (Bytes size) text out = text ++ drop size out
+output_after (Refused r) text out = out
 
 -- What writing promises of the answer and of the lent output.
 pub record WritesFrom (n used : ℕ) (words names out : List ℕ) (x : Written) (out' : List ℕ) : Type 0 where
   pub answer : x ≡ writing n used words names (length out)
-  pub output : out' ≡ outputAfter x (text_of n used words names) out
+  pub output : out' ≡ output_after x (text_of n used words names) out
 
 -- over the lent slices: row words, names, output
 abbrev pub Writes : ℕ → ℕ → Words → Buffer → Buffer → Written → Type 0

@@ -10,17 +10,17 @@ digits zero n = []
 digits (suc k) n = elim (ltb n 10) [ true ↦ (48 + n) ∷ [] | false ↦ digits k (n / 10) ++ ((48 + n % 10) ∷ []) ]
 
 -- a number; 20 digits hold every word
-abbrev pub numberText : ℕ → List ℕ
-numberText n = digits 20 n
+abbrev pub number_text : ℕ → List ℕ
+number_text n = digits 20 n
 
 -- one character per attribute: `X` for a member, `.` for another
-abbrev pub markText : ℕ → ℕ
-markText zero = 46
-markText (suc d) = 88
+abbrev pub mark_text : ℕ → ℕ
+mark_text zero = 46
+mark_text (suc d) = 88
 
-unfoldable pub setText : ℕ → ℕ → List ℕ
-setText zero w = []
-setText (suc n) w = markText (w % 2) ∷ setText n (w / 2)
+unfoldable pub set_text : ℕ → ℕ → List ℕ
+set_text zero w = []
+set_text (suc n) w = mark_text (w % 2) ∷ set_text n (w / 2)
 
 abbrev pub space : List ℕ
 space = 32 ∷ []

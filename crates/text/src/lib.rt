@@ -1,7 +1,7 @@
 // Bytes, numbers and sets as text, each written into a lent buffer from an offset on; the answer is the offset behind it.
 // What does not fit is dropped, so that every function is total.
 ghost use Rattle.std.specs.Prelude.{◌≡◌, [], ◌∷◌, length};
-ghost use Rattle.text.specs.Text.{numberText, markText, setText};
+ghost use Rattle.text.specs.Text.{number_text, mark_text, set_text};
 ghost use Rattle.text.specs.Text.Digits.{Leads};
 ghost use Rattle.text.specs.Page.{Puts};
 
@@ -31,7 +31,7 @@ pub fn put_bytes(out: &mut [u8], at: usize, bytes: &[u8]) -> usize
 
 // The byte of an attribute: 1 is a member, 0 is none.
 fn mark_of(digit: u64) -> u8
-    ensures { result ≡ markText digit }
+    ensures { result ≡ mark_text digit }
 {
     if digit == 0 {
         return b'.';
@@ -41,7 +41,7 @@ fn mark_of(digit: u64) -> u8
 
 // The set among the first n attributes, a byte for each.
 pub fn put_set(out: &mut [u8], at: usize, n: usize, set: u64) -> usize
-    ensures { Puts out at result (setText n set) }
+    ensures { Puts out at result (set_text n set) }
 {
     let mut to = at;
     let mut left = set;
@@ -67,7 +67,7 @@ fn power_of(n: u64) -> u64
 
 // A number in decimal digits, the first one first.
 pub fn put_number(out: &mut [u8], at: usize, n: u64) -> usize
-    ensures { Puts out at result (numberText n) }
+    ensures { Puts out at result (number_text n) }
 {
     let mut to = at;
     let mut power = power_of(n);
@@ -80,7 +80,7 @@ pub fn put_number(out: &mut [u8], at: usize, n: u64) -> usize
 
 // How many decimal digits a number has.
 pub fn size_of_number(n: u64) -> usize
-    ensures { result ≡ length (numberText n) }
+    ensures { result ≡ length (number_text n) }
 {
     let mut left = n;
     let mut size = 1;

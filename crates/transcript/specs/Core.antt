@@ -5,14 +5,14 @@
 use Rattle.std.specs.Prelude.{true, false, List, [], ◌++◌, ℕ, suc, ◌+◌, ◌/◌, min, length, get_or, eqb, ltb, leb}
 use Rattle.theory.specs.Implications.{Implication}
 use Rattle.attribute_set.specs.Sets.{full}
-use Rattle.context.specs.Objects.{Object, object, firstWritten}
+use Rattle.context.specs.Objects.{Object, object, first_written}
 use Rattle.session.specs.declared.Refusal.{Refusal}
 use Rattle.session.specs.Refusals.{refusal}
 use Rattle.machine.specs.Checks.{State}
-use Rattle.machine.specs.Machine.{afterMove, agreeing, afterFiling}
-use Rattle.written_machine.specs.Reading.{writtenReach, writtenQuestion}
-use Rattle.output_lines.specs.Lines.{yesLine, noLine}
-use Rattle.closing_lines.specs.Closing.{refusalLine}
+use Rattle.machine.specs.Machine.{after_move, agreeing, after_filing}
+use Rattle.written_machine.specs.Reading.{written_reach, written_question}
+use Rattle.output_lines.specs.Lines.{yes_line, no_line}
+use Rattle.closing_lines.specs.Closing.{refusal_line}
 use Rattle.transcript.specs.Output.{Beat, more, last, closing}
 pub mod Cases
 pub mod Along
@@ -28,38 +28,38 @@ abbrev pub counted : ℕ → ℕ
 counted changes = min (suc changes) 18446744073709551615
 
 -- no place is left
-abbrev pub noPlace : Refusal
-noPlace = refusal 12 0
+abbrev pub no_place_refusal : Refusal
+no_place_refusal = refusal 12 0
 
 -- no, with a row of the table and its number
-unfoldable pub coreNo : State → ℕ → Implication ℕ → ℕ → Object → Beat
-coreNo s changes q number o =
+unfoldable pub core_no : State → ℕ → Implication ℕ → ℕ → Object → Beat
+core_no s changes q number o =
     elim (leb (s.lent.rows / 2) (length s.rows)) [
-      | true ↦ last (noLine s.n q number ++ refusalLine noPlace)
-      | false ↦ more (noLine s.n q number) (afterFiling s o) changes
+      | true ↦ last (no_line s.n q number ++ refusal_line no_place_refusal)
+      | false ↦ more (no_line s.n q number) (after_filing s o) changes
     ]
 
 -- yes
-unfoldable pub coreYes : State → ℕ → Implication ℕ → Beat
-coreYes s changes q =
+unfoldable pub core_yes : State → ℕ → Implication ℕ → Beat
+core_yes s changes q =
     elim (leb (s.lent.list / 2) (length s.list)) [
-      | true ↦ last (yesLine s.n q ++ refusalLine noPlace)
-      | false ↦ more (yesLine s.n q) (agreeing s q) (counted changes)
+      | true ↦ last (yes_line s.n q ++ refusal_line no_place_refusal)
+      | false ↦ more (yes_line s.n q) (agreeing s q) (counted changes)
     ]
 
-unfoldable pub coreReply : List Object → State → ℕ → Implication ℕ → Beat
-coreReply table s changes q =
-    elim (ltb (firstWritten table q) (length table)) [
-      | true ↦ coreNo s changes q (firstWritten table q + 1) (get_or table (firstWritten table q) (object 0 0))
-      | false ↦ coreYes s changes q
+unfoldable pub core_reply : List Object → State → ℕ → Implication ℕ → Beat
+core_reply table s changes q =
+    elim (ltb (first_written table q) (length table)) [
+      | true ↦ core_no s changes q (first_written table q + 1) (get_or table (first_written table q) (object 0 0))
+      | false ↦ core_yes s changes q
     ]
 
-unfoldable pub coreBeat : List Object → State → ℕ → Beat
-coreBeat table s changes =
+unfoldable pub core_beat : List Object → State → ℕ → Beat
+core_beat table s changes =
     elim (eqb s.current (full s.n)) [
       | true ↦ last (closing s changes)
-      | false ↦ elim (eqb (writtenReach s) s.current) [
-        | true ↦ more [] (afterMove s) (counted changes)
-        | false ↦ coreReply table s changes (writtenQuestion s)
+      | false ↦ elim (eqb (written_reach s) s.current) [
+        | true ↦ more [] (after_move s) (counted changes)
+        | false ↦ core_reply table s changes (written_question s)
       ]
     ]

@@ -8,9 +8,9 @@ use Rattle.implication.specs.Closure.{follows}
 use Rattle.context.specs.Objects.{Object}
 use Rattle.context.specs.Tables.{AgreesImplication}
 use Rattle.demands.specs.Demand3.{OverM}
-use Rattle.output_lines.specs.Lines.{yesLine, noLine, listLines}
-use Rattle.closing_lines.specs.Closing.{endLine, refusalLine}
-use Rattle.transcript.specs.Core.{noPlace}
+use Rattle.output_lines.specs.Lines.{yes_line, no_line, list_lines}
+use Rattle.closing_lines.specs.Closing.{end_line, refusal_line}
+use Rattle.transcript.specs.Core.{no_place_refusal}
 
 -- just the implications that hold in the table follow from the list
 abbrev pub Decides : ℕ → List Object → List (Implication ℕ) → Type 0
@@ -22,7 +22,7 @@ pub record Concluded (n : ℕ) (table : List Object) (text : List ℕ) : Type 0 
   pub list : List (Implication ℕ)
   pub rows : List Object
   pub changes : ℕ
-  pub whole : text ≡ before ++ (listLines n list ++ endLine (length list) (length rows) changes)
+  pub whole : text ≡ before ++ (list_lines n list ++ end_line (length list) (length rows) changes)
   pub filed : All (λ o. Memᴰ o table) rows
   pub over : All (OverM n) list
   pub decides : Decides n table list
@@ -33,11 +33,11 @@ pub record Full (n : ℕ) (text : List ℕ) : Type 0 where
   pub before : List ℕ
   pub question : Implication ℕ
   pub reply : List ℕ
-  pub replies : (reply ≡ yesLine n question) ⊎ ((row : ℕ) × (reply ≡ noLine n question row))
-  pub whole : text ≡ before ++ (reply ++ refusalLine noPlace)
+  pub replies : (reply ≡ yes_line n question) ⊎ ((row : ℕ) × (reply ≡ no_line n question row))
+  pub whole : text ≡ before ++ (reply ++ refusal_line no_place_refusal)
 
 -- the output ends in the refusal of a yes for which there is no place, its Q line before it
 pub record ListFull (n : ℕ) (text : List ℕ) : Type 0 where
   pub before : List ℕ
   pub question : Implication ℕ
-  pub whole : text ≡ before ++ (yesLine n question ++ refusalLine noPlace)
+  pub whole : text ≡ before ++ (yes_line n question ++ refusal_line no_place_refusal)

@@ -19,9 +19,9 @@ expected =
     69 ∷ 78 ∷ 68 ∷ 32 ∷ 50 ∷ 32 ∷ 52 ∷ 32 ∷ 54 ∷ 10 ∷ []
 
 -- the output of the second: 29 at the offset of the line of marks, and nothing else
-abbrev pub unknownExpected : List ℕ
-unknownExpected = 69 ∷ 32 ∷ 50 ∷ 57 ∷ 32 ∷ 49 ∷ 52 ∷ 10 ∷ []
+abbrev pub unknown_expected : List ℕ
+unknown_expected = 69 ∷ 32 ∷ 50 ∷ 57 ∷ 32 ∷ 49 ∷ 52 ∷ 10 ∷ []
 
 pub record Example : Type 0 where
   pub whole : output input ≡ expected
-  pub refused : output unknown ≡ unknownExpected
+  pub refused : output unknown ≡ unknown_expected

@@ -37,9 +37,9 @@ abbrev pub last : (n : ℕ) → Lfts (suc n) → Lft
 last zero κs = κs.0
 last (suc n) κs = last n κs.1
 
-abbrev pub last-share : (n : ℕ) → Shares (suc n) → Share
-last-share zero qs = qs.0
-last-share (suc n) qs = last-share n qs.1
+abbrev pub last_share : (n : ℕ) → Shares (suc n) → Share
+last_share zero qs = qs.0
+last_share (suc n) qs = last_share n qs.1
 
 abbrev pub beside : List Fml → Fml → Fml
 beside [] Q = Q
@@ -64,7 +64,7 @@ module _ {M : Type 1} {𝓤 : Ura M} (𝓛 : Logic 𝓤) where
   tokens n κs qs = toks 𝓛 n (firsts n κs) (shares n qs)
 
   abbrev token : (n : ℕ) → Lfts (suc n) → Shares (suc n) → SProp 𝓤
-  token n κs qs = A.lft (last n κs) (last-share n qs)
+  token n κs qs = A.lft (last n κs) (last_share n qs)
 
   last-token : (n : ℕ) (κs : Lfts (suc n)) (qs : Shares (suc n)) → ent 𝓤 (toks 𝓛 (suc n) κs qs) (sep 𝓤 (tokens n κs qs) (token n κs qs))
   last-token zero κs qs = comm∗ 𝓤 (A.lft κs.0 qs.0) (emp 𝓤)
@@ -99,10 +99,10 @@ module _ {M : Type 1} {𝓤 : Ura M} {𝓛 : Logic 𝓤} {K : Type 0} where
   pub apart-last : K → {Γ : List (Item 𝓤)} {G : Goal 𝓤 H} (R' : RattleType) (ℓ : Lifetime)
       (n : ℕ) (κs : Lfts (suc n)) (qs : Shares (suc n)) (Ps : List Fml) (y : MutBor R'.Denot)
       → Step K 𝓛 (‵ (beside Ps ftrue) ∷ raw (toks 𝓛 n (firsts n κs) (shares n qs)) ∷ ‵ (fobs y.ghost_name (R'.coded.code y.now))
-      ∷ ‵ (fbor (last n κs) (Body (mem R') y.ref_ptr.0 y.ref_ptr.1 y.ghost_name)) ∷ ‵ (flft (last n κs) (last-share n qs)) ∷ Γ) G
+      ∷ ‵ (fbor (last n κs) (Body (mem R') y.ref_ptr.0 y.ref_ptr.1 y.ghost_name)) ∷ ‵ (flft (last n κs) (last_share n qs)) ∷ Γ) G
       (raw (toks 𝓛 (suc n) κs qs) ∷ ‵ (beside Ps (fsep ((MutRef ℓ (last n κs) R').own_val y (mut_vals y)) ftrue)) ∷ Γ) G
   apart-last t R' ℓ n κs qs Ps y = step (λ s.
-      use1 𝓛 (raw (toks 𝓛 n (firsts n κs) (shares n qs)) ⊛ ‵ (flft (last n κs) (last-share n qs))) (last-token 𝓛 n κs qs) $
+      use1 𝓛 (raw (toks 𝓛 n (firsts n κs) (shares n qs)) ⊛ ‵ (flft (last n κs) (last_share n qs))) (last-token 𝓛 n κs qs) $
       split t $ move t (2 ∷ []) $
       use1 𝓛 (‵ (beside Ps ftrue) ⊛ ‵ ((MutRef ℓ (last n κs) R').own_val y (mut_vals y))) (last_out 𝓛 Ps ((MutRef ℓ (last n κs) R').own_val y (mut_vals y))) $
       split t $ move t (1 ∷ []) $ fsplit3 t $ drop t $ move t (2 ∷ 3 ∷ 0 ∷ 1 ∷ []) $ s)
@@ -110,7 +110,7 @@ module _ {M : Type 1} {𝓤 : Ura M} {𝓛 : Logic 𝓤} {K : Type 0} where
   -- the last struct's part, put behind the words'
   behind : K → {Γ : List (Item 𝓤)} {G : Goal 𝓤 H} {γ' : GName} {v' : Gv} (n : ℕ) (κs : Lfts (suc n)) (qs : Shares (suc n)) (Ps : List Fml)
       → Step K 𝓛 (‵ (beside Ps (fsep (fres γ' v') ftrue)) ∷ raw (toks 𝓛 (suc n) κs qs) ∷ Γ) G
-      (‵ (fobs γ' v') ∷ ‵ (flft (last n κs) (last-share n qs)) ∷ raw (toks 𝓛 n (firsts n κs) (shares n qs)) ∷ ‵ (beside Ps ftrue) ∷ Γ) G
+      (‵ (fobs γ' v') ∷ ‵ (flft (last n κs) (last_share n qs)) ∷ raw (toks 𝓛 n (firsts n κs) (shares n qs)) ∷ ‵ (beside Ps ftrue) ∷ Γ) G
   behind t {γ' = γ'} {v' = v'} n κs qs Ps = step (λ s.
       use1 𝓛 (‵ (fres γ' v')) (𝓛.names.obs-res γ' v') $ move t (3 ∷ 0 ∷ []) $
       use2 𝓛 (‵ (beside Ps (fsep (fres γ' v') ftrue))) (last-in 𝓛 Ps (fres γ' v')) $ move t (2 ∷ 1 ∷ []) $
@@ -118,7 +118,7 @@ module _ {M : Type 1} {𝓤 : Ura M} {𝓛 : Logic 𝓤} {K : Type 0} where
 
   pub given-back-last : K → {γ' : GName} {v' : Gv} {P' : Fml} {Y : SProp 𝓤}
       (n : ℕ) (κs : Lfts (suc n)) (qs : Shares (suc n)) (Ps : List Fml)
-      → Seq K 𝓛 (‵ (fobs γ' v') ∷ ‵ P' ∷ ‵ (flft (last n κs) (last-share n qs)) ∷ raw (toks 𝓛 n (firsts n κs) (shares n qs)) ∷ ‵ (beside Ps ftrue)
+      → Seq K 𝓛 (‵ (fobs γ' v') ∷ ‵ P' ∷ ‵ (flft (last n κs) (last_share n qs)) ∷ raw (toks 𝓛 n (firsts n κs) (shares n qs)) ∷ ‵ (beside Ps ftrue)
       ∷ raw Y ∷ [])
       (prop (sep 𝓤 (sep 𝓤 (toks 𝓛 (suc n) κs qs)
       (sep 𝓤 (sem 𝓛 (beside Ps (fsep (fres γ' v') ftrue))) (sem 𝓛 (feq (List Val) (vunit ∷ []) (vunit ∷ []))))) Y))
@@ -130,7 +130,7 @@ module _ {M : Type 1} {𝓤 : Ura M} {𝓛 : Logic 𝓤} {K : Type 0} where
       (n : ℕ) (κs : Lfts (suc n)) (qs : Shares (suc n)) (Ps : List Fml) (x : MutBor R.Denot) (y : MutBor R'.Denot)
       → Step K 𝓛 (‵ (fobs x.ghost_name (R.coded.code x.now)) ∷ ‵ (fbor κ (Body (mem R) x.ref_ptr.0 x.ref_ptr.1 x.ghost_name)) ∷ ‵ (flft κ q)
       ∷ ‵ (beside Ps ftrue) ∷ raw (toks 𝓛 n (firsts n κs) (shares n qs)) ∷ ‵ (fobs y.ghost_name (R'.coded.code y.now))
-      ∷ ‵ (fbor (last n κs) (Body (mem R') y.ref_ptr.0 y.ref_ptr.1 y.ghost_name)) ∷ ‵ (flft (last n κs) (last-share n qs)) ∷ Γ) G
+      ∷ ‵ (fbor (last n κs) (Body (mem R') y.ref_ptr.0 y.ref_ptr.1 y.ghost_name)) ∷ ‵ (flft (last n κs) (last_share n qs)) ∷ Γ) G
       ((‵ (flft κ q) ⊛ raw (toks 𝓛 (suc n) κs qs))
       ∷ ‵ (fsep ((MutRef (named 0) κ R).own_val x (mut_vals x)) (beside Ps (fsep ((MutRef ℓ (last n κs) R').own_val y (mut_vals y)) ftrue))) ∷ Γ) G
   apart t R R' ℓ n κs qs Ps x y = step (λ s.
@@ -138,7 +138,7 @@ module _ {M : Type 1} {𝓤 : Ura M} {𝓛 : Logic 𝓤} {K : Type 0} where
 
   pub given_back : K → {κ : Lft} {q : Share} {γ γ' : GName} {v v' : Gv} {P P' Q : Fml} {Y : SProp 𝓤}
       (n : ℕ) (κs : Lfts (suc n)) (qs : Shares (suc n)) (Ps : List Fml)
-      → Seq K 𝓛 (‵ (fobs γ v) ∷ ‵ P ∷ ‵ (flft κ q) ∷ ‵ (fobs γ' v') ∷ ‵ P' ∷ ‵ (flft (last n κs) (last-share n qs))
+      → Seq K 𝓛 (‵ (fobs γ v) ∷ ‵ P ∷ ‵ (flft κ q) ∷ ‵ (fobs γ' v') ∷ ‵ P' ∷ ‵ (flft (last n κs) (last_share n qs))
       ∷ raw (toks 𝓛 n (firsts n κs) (shares n qs)) ∷ ‵ (fsep Q (beside Ps ftrue)) ∷ raw Y ∷ [])
       (prop (sep 𝓤 (sep 𝓤 (sep 𝓤 (A.lft κ q) (toks 𝓛 (suc n) κs qs))
       (sep 𝓤 (sem 𝓛 (fsep (fres γ v) (beside Ps (fsep (fres γ' v') ftrue)))) (sem 𝓛 (feq (List Val) (vunit ∷ []) (vunit ∷ []))))) Y))
@@ -151,7 +151,7 @@ module _ {M : Type 1} {𝓤 : Ura M} {𝓛 : Logic 𝓤} {K : Type 0} where
       (n : ℕ) (κs : Lfts (suc n)) (qs : Shares (suc n)) (Ps : List Fml) (x : Bor R.Denot) (y : Bor R'.Denot)
       → Step K 𝓛 (‵ (fshr_bor κ (λ s. part_at R s x.now x.ref_ptr.0 x.ref_ptr.1)) ∷ ‵ (flft κ q)
       ∷ ‵ (beside Ps ftrue) ∷ raw (toks 𝓛 n (firsts n κs) (shares n qs)) ∷ ‵ (fobs y.ghost_name (R'.coded.code y.now))
-      ∷ ‵ (fbor (last n κs) (Body (mem R') y.ref_ptr.0 y.ref_ptr.1 y.name)) ∷ ‵ (flft (last n κs) (last-share n qs)) ∷ Γ) G
+      ∷ ‵ (fbor (last n κs) (Body (mem R') y.ref_ptr.0 y.ref_ptr.1 y.name)) ∷ ‵ (flft (last n κs) (last_share n qs)) ∷ Γ) G
       ((‵ (flft κ q) ⊛ raw (toks 𝓛 (suc n) κs qs))
       ∷ ‵ (fsep ((ShrRef (named 0) κ R).own_val x (shr_vals x)) (beside Ps (fsep ((MutRef ℓ (last n κs) R').own_val y (shr_vals y)) ftrue))) ∷ Γ) G
   apart-shared t R R' ℓ n κs qs Ps x y = step (λ s.
@@ -159,7 +159,7 @@ module _ {M : Type 1} {𝓤 : Ura M} {𝓛 : Logic 𝓤} {K : Type 0} where
 
   pub given-back-shared : K → {κ : Lft} {q : Share} {γ' : GName} {v' : Gv} {P P' Q : Fml} {Y : SProp 𝓤}
       (n : ℕ) (κs : Lfts (suc n)) (qs : Shares (suc n)) (Ps : List Fml)
-      → Seq K 𝓛 (‵ (flft κ q) ∷ ‵ P ∷ ‵ (fobs γ' v') ∷ ‵ P' ∷ ‵ (flft (last n κs) (last-share n qs))
+      → Seq K 𝓛 (‵ (flft κ q) ∷ ‵ P ∷ ‵ (fobs γ' v') ∷ ‵ P' ∷ ‵ (flft (last n κs) (last_share n qs))
       ∷ raw (toks 𝓛 n (firsts n κs) (shares n qs)) ∷ ‵ (fsep Q (beside Ps ftrue)) ∷ raw Y ∷ [])
       (prop (sep 𝓤 (sep 𝓤 (sep 𝓤 (A.lft κ q) (toks 𝓛 (suc n) κs qs))
       (sep 𝓤 (sem 𝓛 (fsep ftrue (beside Ps (fsep (fres γ' v') ftrue)))) (sem 𝓛 (feq (List Val) (vunit ∷ []) (vunit ∷ []))))) Y))

@@ -20,14 +20,14 @@ abbrev pub flag : Local
 flag = local ty_bool value_local
 
 -- a pointer to numbers of a width, and a slice of them
-abbrev pub pointer-to : Width → Local
-pointer-to w = local (ty_ref erased mut (ty_int w)) value_local
+abbrev pub pointer_to : Width → Local
+pointer_to w = local (ty_ref erased mut (ty_int w)) value_local
 
 abbrev pub slice_of : Width → Lifetime → Mutability → Local
 slice_of w ℓ m = local (slice_ty (ty_ref ℓ m (ty_int w))) value_local
 
 abbrev pub pointer : Local
-pointer = pointer-to w64
+pointer = pointer_to w64
 
 abbrev pub words : Lifetime → Mutability → Local
 words = slice_of w64
@@ -58,21 +58,21 @@ abbrev pub takes_field : ℕ → ℕ → ℕ → Body
 takes_field i j k = assign (place i []) (rv_opd (copy (place j (field k ∷ []))))
 
 -- a slice in local j is lent on: its pointer in local i, then with its count in local s
-abbrev pub takes-address-of : Width → ℕ → ℕ → Body
-takes-address-of w i j = assign (place i []) (addr_of (place j (field 0 ∷ deref (ty_int w) ∷ [])))
+abbrev pub takes_address_of : Width → ℕ → ℕ → Body
+takes_address_of w i j = assign (place i []) (addr_of (place j (field 0 ∷ deref (ty_int w) ∷ [])))
 
-abbrev pub takes-address : ℕ → ℕ → Body
-takes-address = takes-address-of w64
+abbrev pub takes_address : ℕ → ℕ → Body
+takes_address = takes_address_of w64
 
-abbrev pub makes-slice : ℕ → ℕ → ℕ → Body
-makes-slice s i j = assign (place s []) (aggregate (copy (place i []) ∷ copy (place j (field 1 ∷ [])) ∷ []))
+abbrev pub makes_slice : ℕ → ℕ → ℕ → Body
+makes_slice s i j = assign (place s []) (aggregate (copy (place i []) ∷ copy (place j (field 1 ∷ [])) ∷ []))
 
 -- what local i refers to becomes a field of local j, or local j itself
-abbrev pub stores-field : ℕ → Declared → ℕ → ℕ → Body
-stores-field i D j k = assign (place i (deref (layout (shape D)) ∷ [])) (rv_opd (copy (place j (field k ∷ []))))
+abbrev pub stores_field : ℕ → Declared → ℕ → ℕ → Body
+stores_field i D j k = assign (place i (deref (layout (shape D)) ∷ [])) (rv_opd (copy (place j (field k ∷ []))))
 
-abbrev pub stores-local : ℕ → Declared → ℕ → Body
-stores-local i D j = assign (place i (deref (layout (shape D)) ∷ [])) (rv_opd (copy (place j [])))
+abbrev pub stores_local : ℕ → Declared → ℕ → Body
+stores_local i D j = assign (place i (deref (layout (shape D)) ∷ [])) (rv_opd (copy (place j [])))
 
 -- ---- a function of a number of lifetimes, without bounds, and of a number of parameters
 

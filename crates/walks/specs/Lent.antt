@@ -17,8 +17,8 @@ pub record Lendable : Type 2 where
   pub copies : LL.Copyables type.parts
   pub lowers : LL.Lowered type
 
-abbrev pub as-field : (T : Lendable) → LL.FLaws (field T.type)
-as-field T = LL.field_laws T.type T.laws T.lowers
+abbrev pub as_field : (T : Lendable) → LL.FLaws (field T.type)
+as_field T = LL.field_laws T.type T.laws T.lowers
 
 -- a struct of an answer, a record and a test; `one`: it is its fields
 pub record Turned (N T : Lendable) : Type 1 where
@@ -40,14 +40,14 @@ turn {N} {T} S = record {
   to_one = S.one;
 }
 
-abbrev pub turn-laws : {N T : Lendable} (S : Turned N T) → LL.Laws (turn S)
-turn-laws {N} {T} S = (as-field N, (as-field T, (LL.bool-laws, tt)))
+abbrev pub turn_laws : {N T : Lendable} (S : Turned N T) → LL.Laws (turn S)
+turn_laws {N} {T} S = (as_field N, (as_field T, (LL.bool-laws, tt)))
 
 -- the same with an enum for the answer
 pub record Enumerated : Type 2 where
   pub type : ED.Declared
   pub plain : Plainss (ED.variants type)
-  pub as-field : LL.FLaws (ED.field type)
+  pub as_field : LL.FLaws (ED.field type)
 
 pub record TurnedEnum (N : Enumerated) (T : Lendable) : Type 1 where
   pub name : Sym
@@ -58,8 +58,8 @@ pub record TurnedEnum (N : Enumerated) (T : Lendable) : Type 1 where
   pub one : (x y : D) → ◌≡◌ {A = Denots (rows (ED.field N.type ∷ field T.type ∷ bool-field ∷ []))}
       (N.type.to (answer x), (T.type.to (kept x), (changed x, tt))) (N.type.to (answer y), (T.type.to (kept y), (changed y, tt))) → x ≡ y
 
-abbrev pub enum-turn : {N : Enumerated} {T : Lendable} → TurnedEnum N T → Declared
-enum-turn {N} {T} S = record {
+abbrev pub enum_turn : {N : Enumerated} {T : Lendable} → TurnedEnum N T → Declared
+enum_turn {N} {T} S = record {
   name = S.name;
   args = [];
   parts = ED.field N.type ∷ field T.type ∷ bool-field ∷ [];
@@ -68,5 +68,5 @@ enum-turn {N} {T} S = record {
   to_one = S.one;
 }
 
-abbrev pub enum-turn-laws : {N : Enumerated} {T : Lendable} (S : TurnedEnum N T) → LL.Laws (enum-turn S)
-enum-turn-laws {N} {T} S = (N.as-field, (as-field T, (LL.bool-laws, tt)))
+abbrev pub enum_turn_laws : {N : Enumerated} {T : Lendable} (S : TurnedEnum N T) → LL.Laws (enum_turn S)
+enum_turn_laws {N} {T} S = (N.as_field, (as_field T, (LL.bool-laws, tt)))

@@ -24,21 +24,21 @@ pub record Param (n : ℕ) : Type 2 where
 
 module _ {n : ℕ} where
   -- a struct, lent to be written, lent to be read, and by value
-  abbrev pub mut-struct : (j : ℕ) → Within n j → Lendable → Param n
-  mut-struct j ok T = record { slot = RefMut j ok (row T.type) tt; spell = λ κs. mut_vals; tell = λ κs. mut_Tells (named j) (lft_at n j ok κs) (row T.type) }
+  abbrev pub mut_struct : (j : ℕ) → Within n j → Lendable → Param n
+  mut_struct j ok T = record { slot = RefMut j ok (row T.type) tt; spell = λ κs. mut_vals; tell = λ κs. mut_Tells (named j) (lft_at n j ok κs) (row T.type) }
 
-  abbrev pub shr-struct : (j : ℕ) → Within n j → Lendable → Param n
-  shr-struct j ok T = record { slot = Ref j ok (row T.type) tt; spell = λ κs. shr_vals; tell = λ κs. shr_Tells (named j) (lft_at n j ok κs) (row T.type) }
+  abbrev pub shr_struct : (j : ℕ) → Within n j → Lendable → Param n
+  shr_struct j ok T = record { slot = Ref j ok (row T.type) tt; spell = λ κs. shr_vals; tell = λ κs. shr_Tells (named j) (lft_at n j ok κs) (row T.type) }
 
-  abbrev pub own-struct : Lendable → Param n
-  own-struct T = record { slot = plain (λ κs. row T.type); spell = λ κs. LL.vals T.type T.laws; tell = λ κs. LL.tells T.type T.laws }
+  abbrev pub own_struct : Lendable → Param n
+  own_struct T = record { slot = plain (λ κs. row T.type); spell = λ κs. LL.vals T.type T.laws; tell = λ κs. LL.tells T.type T.laws }
 
   -- a slice of numbers of a width, lent to be written and lent to be read, and a number
   abbrev pub mut_slice : (j : ℕ) → Within n j → Width → Param n
   mut_slice j ok w = record { slot = SliceRefMut j ok (UInt w) tt; spell = λ κs. mut_slice_vals; tell = λ κs. mut_slice_Tells (named j) (lft_at n j ok κs) (UInt w) }
 
-  abbrev pub shr-slice : (j : ℕ) → Within n j → Width → Param n
-  shr-slice j ok w = record { slot = SliceRef j ok (UInt w) tt; spell = λ κs. shr_slice_vals; tell = λ κs. shr_slice_Tells (named j) (lft_at n j ok κs) (UInt w) }
+  abbrev pub shr_slice : (j : ℕ) → Within n j → Width → Param n
+  shr_slice j ok w = record { slot = SliceRef j ok (UInt w) tt; spell = λ κs. shr_slice_vals; tell = λ κs. shr_slice_Tells (named j) (lft_at n j ok κs) (UInt w) }
 
   abbrev pub number : Width → Param n
   number w = record { slot = plain (λ κs. UInt w); spell = λ κs. uint_vals w; tell = λ κs. uint_Tells w }

@@ -29,8 +29,8 @@ pub record Way (n m : ℕ) : Type 0 where
   pub lifetimes : Lfts n → Lfts m
   pub shares : Shares n → Shares m
 
-abbrev pub behind-first : (n : ℕ) → Way (suc n) n
-behind-first n = record { lifetimes = λ κs. κs.1; shares = λ qs. qs.1 }
+abbrev pub behind_first : (n : ℕ) → Way (suc n) n
+behind_first n = record { lifetimes = λ κs. κs.1; shares = λ qs. qs.1 }
 
 abbrev pub before_last : (n : ℕ) → Way (suc n) n
 before_last n = record { lifetimes = firsts n; shares = shares n }
@@ -75,18 +75,18 @@ module _ (P : Passing) where
       abbrev spelt : Vals lent.signature κs
       spelt = valss (types_at lent.signature.params κs) (spells P.own.params κs) a
 
-      abbrev spelt-in : Vals callee.signature below
-      spelt-in = valss (types_at callee.signature.params below) (spells P.inner.params below) given
+      abbrev spelt_in : Vals callee.signature below
+      spelt_in = valss (types_at callee.signature.params below) (spells P.inner.params below) given
 
       -- what is owned at entry, what each parameter of the callee owns, and what is said of each one's last value
       abbrev pub held : Fml
       held = owns (types_at lent.signature.params κs) a spelt
 
       abbrev pub parts_in : List Fml
-      parts_in = parts (types_at callee.signature.params below) given spelt-in
+      parts_in = parts (types_at callee.signature.params below) given spelt_in
 
-      abbrev pub said-out : Lasts callee below given → List Fml
-      said-out = said below callee.signature.params callee.kept given
+      abbrev pub said_out : Lasts callee below given → List Fml
+      said_out = said below callee.signature.params callee.kept given
 
   module _ {M : Type 1} {𝓤 : Ura M} (𝓛 : Logic 𝓤) (c : Clauses 𝓤 lent) (k : Clauses 𝓤 callee) where
     -- what is known of the callee
@@ -101,7 +101,7 @@ module _ (P : Passing) where
 
       -- all that the callee is called with
       abbrev pub sent : Shares P.own.lifetimes → Ghost → (Agreed 𝓛 callee k).Ghost
-      sent qs g' = ((below κs, P.down.shares qs, tt, given κs a, spelt-in κs a), g')
+      sent qs g' = ((below κs, P.down.shares qs, tt, given κs a, spelt_in κs a), g')
 
       -- the callee asks for nothing
       abbrev pub Free : Ghost → Type 1

@@ -29,7 +29,7 @@ pub use Rattle.walks.specs.Walks.{all_told, Agreed, Walk, meets, called, landed,
 pub use Rattle.session.specs.Choice.{chosen}
 pub use Rattle.walks.specs.Behind.{loads, reads, stores, stores-whole, stores-if}
 pub use Rattle.walks.specs.Calls.{words_of, apart, apart-shared, apart-last, apart-alone, apart-shared-alone, given_back, given-back-shared, given-back-last, given-back-alone, given-back-shared-alone}
-pub use Rattle.walks.specs.Lent.{Lendable, Turned, turn, turn-laws, Enumerated, TurnedEnum, enum-turn, enum-turn-laws}
-pub use Rattle.walks.specs.Code.{nothing, variants, function, lent_struct, struct, slice_of, words, bytes, word, pointer-to, pointer, flag, whole_of, reads_struct, takes-address-of, takes-address, makes-slice, takes_field, stores-field, stores-local}
-pub use Rattle.walks.specs.Params.{mut-struct, shr-struct, own-struct, mut_slice, shr-slice, number}
-pub use Rattle.walks.specs.Passing.{behind-first, before_last, between, Passing, lent, callee, held, parts_in, said-out, sent, Walks, Passes, passes, ends}
+pub use Rattle.walks.specs.Lent.{Lendable, Turned, turn, turn_laws, Enumerated, TurnedEnum, enum_turn, enum_turn_laws}
+pub use Rattle.walks.specs.Code.{nothing, variants, function, lent_struct, struct, slice_of, words, bytes, word, pointer_to, pointer, flag, whole_of, reads_struct, takes_address_of, takes_address, makes_slice, takes_field, stores_field, stores_local}
+pub use Rattle.walks.specs.Params.{mut_struct, shr_struct, own_struct, mut_slice, shr_slice, number}
+pub use Rattle.walks.specs.Passing.{behind_first, before_last, between, Passing, lent, callee, held, parts_in, said_out, sent, Walks, Passes, passes, ends}

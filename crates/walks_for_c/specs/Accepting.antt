@@ -1,5 +1,5 @@
 -- For C, a call that writes the record and the second of three slices of words.
-use Rattle.walks.specs.Tools.{refl, [], ◌∷◌, Ura, Name, Fn, named, erased, mut, imm, w64, place, opd_unit, rv_opd, seq, assign, call, cond, skip, return, flft, toks, ‵, raw, ◌⊛◌, ◌$◌, ◌∵◌, !, qed, move, fjoin, look, init, stop, hop, fld, from, addr, of_opd, unit_lit, and_then, no_more, returns, enter, alloc1, alloc0, params1, pass1, pass0, free0, agg, whole, sub, look_in, Is, u64, unit, shr_slice_Lawful, mut_slice_Lawful, plain, owned, row, Clauses, called, landed, copied, field-of, sets, freed, chosen, loads, stores, stores-if, words_of, apart, given_back, Lendable, Turned, turn, turn-laws, nothing, function, lent_struct, struct, words, pointer, flag, whole_of, reads_struct, takes-address, makes-slice, takes_field, stores-field, mut-struct, own-struct, mut_slice, shr-slice, between, Passing, lent, callee, held, parts_in, said-out, sent, Walks, Passes, passes, ends}
+use Rattle.walks.specs.Tools.{refl, [], ◌∷◌, Ura, Name, Fn, named, erased, mut, imm, w64, place, opd_unit, rv_opd, seq, assign, call, cond, skip, return, flft, toks, ‵, raw, ◌⊛◌, ◌$◌, ◌∵◌, !, qed, move, fjoin, look, init, stop, hop, fld, from, addr, of_opd, unit_lit, and_then, no_more, returns, enter, alloc1, alloc0, params1, pass1, pass0, free0, agg, whole, sub, look_in, Is, u64, unit, shr_slice_Lawful, mut_slice_Lawful, plain, owned, row, Clauses, called, landed, copied, field-of, sets, freed, chosen, loads, stores, stores-if, words_of, apart, given_back, Lendable, Turned, turn, turn_laws, nothing, function, lent_struct, struct, words, pointer, flag, whole_of, reads_struct, takes_address, makes_slice, takes_field, stores_field, mut_struct, own_struct, mut_slice, shr_slice, between, Passing, lent, callee, held, parts_in, said_out, sent, Walks, Passes, passes, ends}
 use denote.Struct.Laws as LL
 use types.Logic.{Logic}
 
@@ -7,8 +7,8 @@ module _ (T N : Lendable) (S : Turned N T) where
   -- the function, and the one that it calls
   abbrev pub passing : Passing
   passing = record {
-    own = record { lifetimes = 5; params = mut-struct 0 tt T ∷ shr-slice 1 tt w64 ∷ mut_slice 2 tt w64 ∷ shr-slice 3 tt w64 ∷ mut-struct 4 tt N ∷ []; result = plain (λ κs. unit) };
-    inner = record { lifetimes = 3; params = own-struct T ∷ shr-slice 0 tt w64 ∷ mut_slice 1 tt w64 ∷ shr-slice 2 tt w64 ∷ []; result = plain (λ κs. row (turn S)) };
+    own = record { lifetimes = 5; params = mut_struct 0 tt T ∷ shr_slice 1 tt w64 ∷ mut_slice 2 tt w64 ∷ shr_slice 3 tt w64 ∷ mut_struct 4 tt N ∷ []; result = plain (λ κs. unit) };
+    inner = record { lifetimes = 3; params = own_struct T ∷ shr_slice 0 tt w64 ∷ mut_slice 1 tt w64 ∷ shr_slice 2 tt w64 ∷ []; result = plain (λ κs. row (turn S)) };
     down = between 3;
     passed = λ κs a. (a.0.now, (a.1.0, (a.1.1.0, (a.1.1.1.0, tt))));
     answer = λ κs r. tt;
@@ -19,12 +19,12 @@ module _ (T N : Lendable) (S : Turned N T) where
   abbrev pub accepting : Name → Fn
   accepting n = function 5 5 (nothing ∷ lent_struct 0 mut T.type ∷ words (named 1) imm ∷ words (named 2) mut ∷ words (named 3) imm ∷ lent_struct 4 mut N.type ∷ struct T.type ∷ struct (turn S) ∷ pointer ∷ words erased mut ∷ flag ∷ [])
       (seq (reads_struct 6 1 T.type)
-      (seq (takes-address 8 3)
-      (seq (makes-slice 9 8 3)
+      (seq (takes_address 8 3)
+      (seq (makes_slice 9 8 3)
       (seq (call n (whole_of 6 ∷ whole_of 2 ∷ whole_of 9 ∷ whole_of 4 ∷ []) (place 7 []))
       (seq (takes_field 10 7 2)
-      (seq (cond (whole_of 10) (stores-field 1 T.type 7 1) skip)
-      (seq (stores-field 5 N.type 7 0)
+      (seq (cond (whole_of 10) (stores_field 1 T.type 7 1) skip)
+      (seq (stores_field 5 N.type 7 0)
       (seq (assign (place 0 []) (rv_opd opd_unit)) return))))))))
 
   module _ {M : Type 1} {𝓤 : Ura M} (𝓛 : Logic 𝓤) (c : Clauses 𝓤 (lent passing)) (k : Clauses 𝓤 (callee passing)) where
@@ -52,7 +52,7 @@ module _ (T N : Lendable) (S : Turned N T) where
         move ! (0 ∷ 26 ∷ 27 ∷ []) $ fjoin ! $ called ! fm (callee passing) k known (sent passing 𝓛 c k κs a qs g') free
         (and_then ! (copied ! 12 refl) (and_then ! (copied ! 20 refl) (and_then ! (copied ! 6 refl) (and_then ! (copied ! 16 refl) (no_more !))))) (λ v r ws.
         -- [the result; the tokens of the words; what is said of them; what the callee ensures; the record's; the locals; the answer's]
-        landed ! (turn S) (turn-laws S) r v l7 12 refl refl (λ made.
+        landed ! (turn S) (turn_laws S) r v l7 12 refl refl (λ made.
         sets ! (of_opd ! (field-of ! refl (look_in ! 12 (sub ! 2 refl (whole !))))) 6 refl (tt, tt) $
         move ! (3 ∷ 4 ∷ 5 ∷ []) $
         stores-if ! T.type T.laws T.plain a.0 (S.kept r) made.1.0 (S.changed r) 21 9 3 refl refl (sub ! 1 refl (whole !)) refl $
@@ -63,7 +63,7 @@ module _ (T N : Lendable) (S : Turned N T) where
         freed ! 29 refl refl $ freed ! 27 refl refl $ freed ! 25 refl refl $ freed ! 23 refl refl $ freed ! 21 refl refl $ freed ! 19 refl refl $ freed ! 17 refl refl $ freed ! 15 refl refl $
         freed ! 13 refl refl $ freed ! 11 refl refl $ freed ! 9 refl refl $ free0 ! $
         move ! (8 ∷ []) $ ends passing 𝓛 c k ! _ κs qs a g g' enough r ws $
-        move ! (4 ∷ 5 ∷ 6 ∷ 1 ∷ 2 ∷ 3 ∷ 7 ∷ 8 ∷ 0 ∷ []) $ given_back ! 3 κs.1 qs.1 (words_of (said-out passing κs a ws))))))))))))))))
+        move ! (4 ∷ 5 ∷ 6 ∷ 1 ∷ 2 ∷ 3 ∷ 7 ∷ 8 ∷ 0 ∷ []) $ given_back ! 3 κs.1 qs.1 (words_of (said_out passing κs a ws))))))))))))))))
 
     pub accepts : Passes passing 𝓛 c k accepting
     accepts = passes passing 𝓛 c k accepting walk

@@ -1,5 +1,5 @@
 -- For C, a call that only reads: the record and a file are lent to be read, with a number.
-use Rattle.walks.specs.Tools.{refl, [], ◌∷◌, Ura, Name, Fn, named, mut, imm, w8, w64, place, opd_unit, rv_opd, seq, assign, call, return, flft, toks, ‵, raw, ◌⊛◌, ◌$◌, ◌∵◌, !, qed, move, fjoin, look, init, of_opd, unit_lit, and_then, no_more, returns, enter, alloc1, alloc0, params1, pass1, pass0, free0, Is, u8, unit, uint_Lawful, shr_slice_Lawful, plain, owned, row, Clauses, called, landed, copied, sets, freed, reads, stores-whole, words_of, apart-shared, given-back-shared, Lendable, nothing, function, lent_struct, struct, bytes, word, whole_of, reads_struct, stores-local, mut-struct, shr-struct, own-struct, shr-slice, number, between, Passing, lent, callee, held, parts_in, said-out, sent, Walks, Passes, passes, ends}
+use Rattle.walks.specs.Tools.{refl, [], ◌∷◌, Ura, Name, Fn, named, mut, imm, w8, w64, place, opd_unit, rv_opd, seq, assign, call, return, flft, toks, ‵, raw, ◌⊛◌, ◌$◌, ◌∵◌, !, qed, move, fjoin, look, init, of_opd, unit_lit, and_then, no_more, returns, enter, alloc1, alloc0, params1, pass1, pass0, free0, Is, u8, unit, uint_Lawful, shr_slice_Lawful, plain, owned, row, Clauses, called, landed, copied, sets, freed, reads, stores-whole, words_of, apart-shared, given-back-shared, Lendable, nothing, function, lent_struct, struct, bytes, word, whole_of, reads_struct, stores_local, mut_struct, shr_struct, own_struct, shr_slice, number, between, Passing, lent, callee, held, parts_in, said_out, sent, Walks, Passes, passes, ends}
 use denote.Struct.Laws as LL
 use types.Logic.{Logic}
 
@@ -7,8 +7,8 @@ module _ (T N : Lendable) where
   -- the function, and the one that it calls
   abbrev pub passing : Passing
   passing = record {
-    own = record { lifetimes = 3; params = shr-struct 0 tt T ∷ shr-slice 1 tt w8 ∷ number w64 ∷ mut-struct 2 tt N ∷ []; result = plain (λ κs. unit) };
-    inner = record { lifetimes = 1; params = own-struct T ∷ shr-slice 0 tt w8 ∷ number w64 ∷ []; result = plain (λ κs. row N.type) };
+    own = record { lifetimes = 3; params = shr_struct 0 tt T ∷ shr_slice 1 tt w8 ∷ number w64 ∷ mut_struct 2 tt N ∷ []; result = plain (λ κs. unit) };
+    inner = record { lifetimes = 1; params = own_struct T ∷ shr_slice 0 tt w8 ∷ number w64 ∷ []; result = plain (λ κs. row N.type) };
     down = between 1;
     passed = λ κs a. (a.0.now, (a.1.0, (a.1.1.0, tt)));
     answer = λ κs r. tt;
@@ -20,7 +20,7 @@ module _ (T N : Lendable) where
   asking n = function 3 4 (nothing ∷ lent_struct 0 imm T.type ∷ bytes (named 1) ∷ word ∷ lent_struct 2 mut N.type ∷ struct N.type ∷ struct T.type ∷ [])
       (seq (reads_struct 6 1 T.type)
       (seq (call n (whole_of 6 ∷ whole_of 2 ∷ whole_of 3 ∷ []) (place 5 []))
-      (seq (stores-local 4 N.type 5)
+      (seq (stores_local 4 N.type 5)
       (seq (assign (place 0 []) (rv_opd opd_unit)) return))))
 
   module _ {M : Type 1} {𝓤 : Ura M} (𝓛 : Logic 𝓤) (c : Clauses 𝓤 (lent passing)) (k : Clauses 𝓤 (callee passing)) where
@@ -51,7 +51,7 @@ module _ (T N : Lendable) where
         sets ! (of_opd ! (unit_lit !)) 20 refl (tt, tt) $ returns ! (look ! 20 refl) $
         freed ! 20 refl refl $ freed ! 18 refl refl $ freed ! 16 refl refl $ freed ! 14 refl refl $ freed ! 12 refl refl $ freed ! 10 refl refl $ freed ! 8 refl refl $ free0 ! $
         move ! (5 ∷ []) $ ends passing 𝓛 c k ! _ κs qs a g g' enough r ws $
-        move ! (6 ∷ 7 ∷ 1 ∷ 2 ∷ 3 ∷ 4 ∷ 5 ∷ 0 ∷ []) $ given-back-shared ! 1 κs.1 qs.1 (words_of (said-out passing κs a ws))))))))))))
+        move ! (6 ∷ 7 ∷ 1 ∷ 2 ∷ 3 ∷ 4 ∷ 5 ∷ 0 ∷ []) $ given-back-shared ! 1 κs.1 qs.1 (words_of (said_out passing κs a ws))))))))))))
 
     pub asks : Passes passing 𝓛 c k asking
     asks = passes passing 𝓛 c k asking walk

@@ -1,5 +1,5 @@
 -- For C, a call that only reads, with four numbers: a slice of words is lent to be read, and no record.
-use Rattle.walks.specs.Tools.{refl, [], ◌∷◌, Ura, Name, Fn, named, mut, imm, w64, place, opd_unit, rv_opd, seq, assign, call, return, toks, ‵, raw, ◌$◌, ◌∵◌, !, qed, move, look, init, of_opd, unit_lit, and_then, no_more, returns, enter, alloc1, alloc0, params1, pass1, pass0, free0, u64, unit, uint_Lawful, shr_slice_Lawful, plain, row, Clauses, called, landed, copied, sets, freed, stores-whole, apart-last, given-back-last, Lendable, nothing, function, lent_struct, struct, words, word, whole_of, stores-local, mut-struct, shr-slice, number, before_last, Passing, lent, callee, held, parts_in, said-out, sent, Walks, Passes, passes, ends}
+use Rattle.walks.specs.Tools.{refl, [], ◌∷◌, Ura, Name, Fn, named, mut, imm, w64, place, opd_unit, rv_opd, seq, assign, call, return, toks, ‵, raw, ◌$◌, ◌∵◌, !, qed, move, look, init, of_opd, unit_lit, and_then, no_more, returns, enter, alloc1, alloc0, params1, pass1, pass0, free0, u64, unit, uint_Lawful, shr_slice_Lawful, plain, row, Clauses, called, landed, copied, sets, freed, stores-whole, apart-last, given-back-last, Lendable, nothing, function, lent_struct, struct, words, word, whole_of, stores_local, mut_struct, shr_slice, number, before_last, Passing, lent, callee, held, parts_in, said_out, sent, Walks, Passes, passes, ends}
 use denote.Struct.Laws as LL
 use types.Logic.{Logic}
 
@@ -7,8 +7,8 @@ module _ (N : Lendable) where
   -- the function, and the one that it calls
   abbrev pub passing : Passing
   passing = record {
-    own = record { lifetimes = 2; params = number w64 ∷ number w64 ∷ shr-slice 0 tt w64 ∷ number w64 ∷ number w64 ∷ mut-struct 1 tt N ∷ []; result = plain (λ κs. unit) };
-    inner = record { lifetimes = 1; params = number w64 ∷ number w64 ∷ shr-slice 0 tt w64 ∷ number w64 ∷ number w64 ∷ []; result = plain (λ κs. row N.type) };
+    own = record { lifetimes = 2; params = number w64 ∷ number w64 ∷ shr_slice 0 tt w64 ∷ number w64 ∷ number w64 ∷ mut_struct 1 tt N ∷ []; result = plain (λ κs. unit) };
+    inner = record { lifetimes = 1; params = number w64 ∷ number w64 ∷ shr_slice 0 tt w64 ∷ number w64 ∷ number w64 ∷ []; result = plain (λ κs. row N.type) };
     down = before_last 1;
     passed = λ κs a. (a.0, (a.1.0, (a.1.1.0, (a.1.1.1.0, (a.1.1.1.1.0, tt)))));
     answer = λ κs r. tt;
@@ -19,7 +19,7 @@ module _ (N : Lendable) where
   abbrev pub asking : Name → Fn
   asking n = function 2 6 (nothing ∷ word ∷ word ∷ words (named 0) imm ∷ word ∷ word ∷ lent_struct 1 mut N.type ∷ struct N.type ∷ [])
       (seq (call n (whole_of 1 ∷ whole_of 2 ∷ whole_of 3 ∷ whole_of 4 ∷ whole_of 5 ∷ []) (place 7 []))
-      (seq (stores-local 6 N.type 7)
+      (seq (stores_local 6 N.type 7)
       (seq (assign (place 0 []) (rv_opd opd_unit)) return)))
 
   module _ {M : Type 1} {𝓤 : Ura M} (𝓛 : Logic 𝓤) (c : Clauses 𝓤 (lent passing)) (k : Clauses 𝓤 (callee passing)) where
@@ -49,7 +49,7 @@ module _ (N : Lendable) where
         sets ! (of_opd ! (unit_lit !)) 20 refl (tt, tt) $ returns ! (look ! 20 refl) $
         freed ! 20 refl refl $ freed ! 18 refl refl $ freed ! 16 refl refl $ freed ! 14 refl refl $ freed ! 12 refl refl $ freed ! 10 refl refl $ freed ! 8 refl refl $ freed ! 6 refl refl $ free0 ! $
         move ! (5 ∷ []) $ ends passing 𝓛 c k ! _ κs qs a g g' enough r ws $
-        move ! (1 ∷ 2 ∷ 3 ∷ 4 ∷ 5 ∷ 0 ∷ []) $ given-back-last ! 1 κs qs (said-out passing κs a ws)))))))))))
+        move ! (1 ∷ 2 ∷ 3 ∷ 4 ∷ 5 ∷ 0 ∷ []) $ given-back-last ! 1 κs qs (said_out passing κs a ws)))))))))))
 
     pub asks : Passes passing 𝓛 c k asking
     asks = passes passing 𝓛 c k asking walk

@@ -1,5 +1,5 @@
 -- For C, a call that writes the first of three slices of words, with three words; the record is lent to be written and stays.
-use Rattle.walks.specs.Tools.{refl, [], ◌∷◌, Ura, Name, Fn, named, erased, mut, imm, w64, place, opd_unit, rv_opd, seq, assign, call, return, flft, toks, ‵, raw, ◌⊛◌, ◌$◌, ◌∵◌, !, qed, move, fjoin, look, init, stop, hop, fld, from, addr, of_opd, unit_lit, and_then, no_more, returns, enter, alloc1, alloc0, params1, pass1, pass0, free0, agg, whole, sub, look_in, Is, u64, unit, uint_Lawful, shr_slice_Lawful, mut_slice_Lawful, plain, owned, row, Clauses, called, landed, copied, field-of, sets, freed, loads, stores-whole, words_of, apart, given_back, Lendable, nothing, function, lent_struct, struct, words, word, pointer, whole_of, reads_struct, takes-address, makes-slice, stores-local, mut-struct, own-struct, mut_slice, shr-slice, number, between, Passing, lent, callee, held, parts_in, said-out, sent, Walks, Passes, passes, ends}
+use Rattle.walks.specs.Tools.{refl, [], ◌∷◌, Ura, Name, Fn, named, erased, mut, imm, w64, place, opd_unit, rv_opd, seq, assign, call, return, flft, toks, ‵, raw, ◌⊛◌, ◌$◌, ◌∵◌, !, qed, move, fjoin, look, init, stop, hop, fld, from, addr, of_opd, unit_lit, and_then, no_more, returns, enter, alloc1, alloc0, params1, pass1, pass0, free0, agg, whole, sub, look_in, Is, u64, unit, uint_Lawful, shr_slice_Lawful, mut_slice_Lawful, plain, owned, row, Clauses, called, landed, copied, field-of, sets, freed, loads, stores-whole, words_of, apart, given_back, Lendable, nothing, function, lent_struct, struct, words, word, pointer, whole_of, reads_struct, takes_address, makes_slice, stores_local, mut_struct, own_struct, mut_slice, shr_slice, number, between, Passing, lent, callee, held, parts_in, said_out, sent, Walks, Passes, passes, ends}
 use denote.Struct.Laws as LL
 use types.Logic.{Logic}
 
@@ -7,8 +7,8 @@ module _ (T N : Lendable) where
   -- the function, and the one that it calls
   abbrev pub passing : Passing
   passing = record {
-    own = record { lifetimes = 5; params = mut-struct 0 tt T ∷ mut_slice 1 tt w64 ∷ shr-slice 2 tt w64 ∷ shr-slice 3 tt w64 ∷ number w64 ∷ number w64 ∷ number w64 ∷ mut-struct 4 tt N ∷ []; result = plain (λ κs. unit) };
-    inner = record { lifetimes = 3; params = own-struct T ∷ mut_slice 0 tt w64 ∷ shr-slice 1 tt w64 ∷ shr-slice 2 tt w64 ∷ number w64 ∷ number w64 ∷ number w64 ∷ []; result = plain (λ κs. row N.type) };
+    own = record { lifetimes = 5; params = mut_struct 0 tt T ∷ mut_slice 1 tt w64 ∷ shr_slice 2 tt w64 ∷ shr_slice 3 tt w64 ∷ number w64 ∷ number w64 ∷ number w64 ∷ mut_struct 4 tt N ∷ []; result = plain (λ κs. unit) };
+    inner = record { lifetimes = 3; params = own_struct T ∷ mut_slice 0 tt w64 ∷ shr_slice 1 tt w64 ∷ shr_slice 2 tt w64 ∷ number w64 ∷ number w64 ∷ number w64 ∷ []; result = plain (λ κs. row N.type) };
     down = between 3;
     passed = λ κs a. (a.0.now, (a.1.0, (a.1.1.0, (a.1.1.1.0, (a.1.1.1.1.0, (a.1.1.1.1.1.0, (a.1.1.1.1.1.1.0, tt)))))));
     answer = λ κs r. tt;
@@ -19,10 +19,10 @@ module _ (T N : Lendable) where
   abbrev pub filling : Name → Fn
   filling n = function 5 8 (nothing ∷ lent_struct 0 mut T.type ∷ words (named 1) mut ∷ words (named 2) imm ∷ words (named 3) imm ∷ word ∷ word ∷ word ∷ lent_struct 4 mut N.type ∷ struct N.type ∷ struct T.type ∷ pointer ∷ words erased mut ∷ [])
       (seq (reads_struct 10 1 T.type)
-      (seq (takes-address 11 2)
-      (seq (makes-slice 12 11 2)
+      (seq (takes_address 11 2)
+      (seq (makes_slice 12 11 2)
       (seq (call n (whole_of 10 ∷ whole_of 12 ∷ whole_of 3 ∷ whole_of 4 ∷ whole_of 5 ∷ whole_of 6 ∷ whole_of 7 ∷ []) (place 9 []))
-      (seq (stores-local 8 N.type 9)
+      (seq (stores_local 8 N.type 9)
       (seq (assign (place 0 []) (rv_opd opd_unit)) return))))))
 
   module _ {M : Type 1} {𝓤 : Ura M} (𝓛 : Logic 𝓤) (c : Clauses 𝓤 (lent passing)) (k : Clauses 𝓤 (callee passing)) where
@@ -61,7 +61,7 @@ module _ (T N : Lendable) where
         freed ! 33 refl refl $ freed ! 31 refl refl $ freed ! 29 refl refl $ freed ! 27 refl refl $ freed ! 25 refl refl $ freed ! 23 refl refl $ freed ! 21 refl refl $ freed ! 19 refl refl $
         freed ! 17 refl refl $ freed ! 15 refl refl $ freed ! 13 refl refl $ freed ! 11 refl refl $ freed ! 9 refl refl $ free0 ! $
         move ! (5 ∷ []) $ ends passing 𝓛 c k ! _ κs qs a g g' enough r ws $
-        move ! (6 ∷ 7 ∷ 8 ∷ 1 ∷ 2 ∷ 3 ∷ 4 ∷ 5 ∷ 0 ∷ []) $ given_back ! 3 κs.1 qs.1 (words_of (said-out passing κs a ws))))))))))))))))))
+        move ! (6 ∷ 7 ∷ 8 ∷ 1 ∷ 2 ∷ 3 ∷ 4 ∷ 5 ∷ 0 ∷ []) $ given_back ! 3 κs.1 qs.1 (words_of (said_out passing κs a ws))))))))))))))))))
 
     pub fills : Passes passing 𝓛 c k filling
     fills = passes passing 𝓛 c k filling walk

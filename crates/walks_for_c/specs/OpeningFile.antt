@@ -1,5 +1,5 @@
 -- For C, a call that writes the record alone: a file is lent to be read.
-use Rattle.walks.specs.Tools.{refl, [], ◌∷◌, Ura, Name, Fn, named, mut, w8, place, opd_unit, rv_opd, seq, assign, call, cond, skip, return, flft, toks, ‵, raw, ◌⊛◌, ◌$◌, ◌∵◌, !, qed, move, fjoin, look, init, of_opd, unit_lit, and_then, no_more, returns, enter, alloc1, alloc0, params1, pass1, pass0, free0, whole, sub, look_in, Is, u8, unit, shr_slice_Lawful, plain, owned, row, Clauses, called, landed, copied, field-of, sets, freed, chosen, loads, stores, stores-if, words_of, apart, given_back, Lendable, Turned, turn, turn-laws, nothing, function, lent_struct, struct, bytes, flag, whole_of, reads_struct, takes_field, stores-field, mut-struct, own-struct, shr-slice, between, Passing, lent, callee, held, parts_in, said-out, sent, Walks, Passes, passes, ends}
+use Rattle.walks.specs.Tools.{refl, [], ◌∷◌, Ura, Name, Fn, named, mut, w8, place, opd_unit, rv_opd, seq, assign, call, cond, skip, return, flft, toks, ‵, raw, ◌⊛◌, ◌$◌, ◌∵◌, !, qed, move, fjoin, look, init, of_opd, unit_lit, and_then, no_more, returns, enter, alloc1, alloc0, params1, pass1, pass0, free0, whole, sub, look_in, Is, u8, unit, shr_slice_Lawful, plain, owned, row, Clauses, called, landed, copied, field-of, sets, freed, chosen, loads, stores, stores-if, words_of, apart, given_back, Lendable, Turned, turn, turn_laws, nothing, function, lent_struct, struct, bytes, flag, whole_of, reads_struct, takes_field, stores_field, mut_struct, own_struct, shr_slice, between, Passing, lent, callee, held, parts_in, said_out, sent, Walks, Passes, passes, ends}
 use denote.Struct.Laws as LL
 use types.Logic.{Logic}
 
@@ -7,8 +7,8 @@ module _ (T N : Lendable) (S : Turned N T) where
   -- the function, and the one that it calls
   abbrev pub passing : Passing
   passing = record {
-    own = record { lifetimes = 3; params = mut-struct 0 tt T ∷ shr-slice 1 tt w8 ∷ mut-struct 2 tt N ∷ []; result = plain (λ κs. unit) };
-    inner = record { lifetimes = 1; params = own-struct T ∷ shr-slice 0 tt w8 ∷ []; result = plain (λ κs. row (turn S)) };
+    own = record { lifetimes = 3; params = mut_struct 0 tt T ∷ shr_slice 1 tt w8 ∷ mut_struct 2 tt N ∷ []; result = plain (λ κs. unit) };
+    inner = record { lifetimes = 1; params = own_struct T ∷ shr_slice 0 tt w8 ∷ []; result = plain (λ κs. row (turn S)) };
     down = between 1;
     passed = λ κs a. (a.0.now, (a.1.0, tt));
     answer = λ κs r. tt;
@@ -21,8 +21,8 @@ module _ (T N : Lendable) (S : Turned N T) where
       (seq (reads_struct 4 1 T.type)
       (seq (call n (whole_of 4 ∷ whole_of 2 ∷ []) (place 5 []))
       (seq (takes_field 6 5 2)
-      (seq (cond (whole_of 6) (stores-field 1 T.type 5 1) skip)
-      (seq (stores-field 3 N.type 5 0)
+      (seq (cond (whole_of 6) (stores_field 1 T.type 5 1) skip)
+      (seq (stores_field 3 N.type 5 0)
       (seq (assign (place 0 []) (rv_opd opd_unit)) return))))))
 
   module _ {M : Type 1} {𝓤 : Ura M} (𝓛 : Logic 𝓤) (c : Clauses 𝓤 (lent passing)) (k : Clauses 𝓤 (callee passing)) where
@@ -45,7 +45,7 @@ module _ (T N : Lendable) (S : Turned N T) where
         move ! (0 ∷ 18 ∷ 19 ∷ []) $ fjoin ! $ called ! fm (callee passing) k known (sent passing 𝓛 c k κs a qs g') free
         (and_then ! (copied ! 8 refl) (and_then ! (copied ! 12 refl) (no_more !))) (λ v r ws.
         -- [the result; the tokens of the words; what is said of them; what the callee ensures; the record's; the locals; the answer's]
-        landed ! (turn S) (turn-laws S) r v l5 8 refl refl (λ made.
+        landed ! (turn S) (turn_laws S) r v l5 8 refl refl (λ made.
         sets ! (of_opd ! (field-of ! refl (look_in ! 8 (sub ! 2 refl (whole !))))) 6 refl (tt, tt) $
         move ! (3 ∷ 4 ∷ 5 ∷ []) $
         stores-if ! T.type T.laws T.plain a.0 (S.kept r) made.1.0 (S.changed r) 13 5 3 refl refl (sub ! 1 refl (whole !)) refl $
@@ -55,7 +55,7 @@ module _ (T N : Lendable) (S : Turned N T) where
         sets ! (of_opd ! (unit_lit !)) 21 refl (tt, tt) $ returns ! (look ! 21 refl) $
         freed ! 21 refl refl $ freed ! 19 refl refl $ freed ! 17 refl refl $ freed ! 15 refl refl $ freed ! 13 refl refl $ freed ! 11 refl refl $ freed ! 9 refl refl $ free0 ! $
         move ! (8 ∷ []) $ ends passing 𝓛 c k ! _ κs qs a g g' enough r ws $
-        move ! (4 ∷ 5 ∷ 6 ∷ 1 ∷ 2 ∷ 3 ∷ 7 ∷ 8 ∷ 0 ∷ []) $ given_back ! 1 κs.1 qs.1 (words_of (said-out passing κs a ws))))))))))))
+        move ! (4 ∷ 5 ∷ 6 ∷ 1 ∷ 2 ∷ 3 ∷ 7 ∷ 8 ∷ 0 ∷ []) $ given_back ! 1 κs.1 qs.1 (words_of (said_out passing κs a ws))))))))))))
 
     pub opens : Passes passing 𝓛 c k opening
     opens = passes passing 𝓛 c k opening walk

@@ -1,5 +1,5 @@
 -- For C, a call that writes a slice of words: the record and a file are lent to be read.
-use Rattle.walks.specs.Tools.{refl, [], ◌∷◌, Ura, Name, Fn, named, erased, mut, imm, w8, w64, place, opd_unit, rv_opd, seq, assign, call, return, flft, toks, ‵, raw, ◌⊛◌, ◌$◌, ◌∵◌, !, qed, move, fjoin, look, init, stop, hop, fld, from, addr, of_opd, unit_lit, and_then, no_more, returns, enter, alloc1, alloc0, params1, pass1, pass0, free0, agg, whole, sub, look_in, Is, u8, u64, unit, shr_slice_Lawful, mut_slice_Lawful, plain, owned, row, Clauses, called, landed, copied, field-of, sets, freed, reads, stores-whole, words_of, apart-shared, given-back-shared, Lendable, nothing, function, lent_struct, struct, words, bytes, pointer, whole_of, reads_struct, takes-address, makes-slice, stores-local, mut-struct, shr-struct, own-struct, mut_slice, shr-slice, between, Passing, lent, callee, held, parts_in, said-out, sent, Walks, Passes, passes, ends}
+use Rattle.walks.specs.Tools.{refl, [], ◌∷◌, Ura, Name, Fn, named, erased, mut, imm, w8, w64, place, opd_unit, rv_opd, seq, assign, call, return, flft, toks, ‵, raw, ◌⊛◌, ◌$◌, ◌∵◌, !, qed, move, fjoin, look, init, stop, hop, fld, from, addr, of_opd, unit_lit, and_then, no_more, returns, enter, alloc1, alloc0, params1, pass1, pass0, free0, agg, whole, sub, look_in, Is, u8, u64, unit, shr_slice_Lawful, mut_slice_Lawful, plain, owned, row, Clauses, called, landed, copied, field-of, sets, freed, reads, stores-whole, words_of, apart-shared, given-back-shared, Lendable, nothing, function, lent_struct, struct, words, bytes, pointer, whole_of, reads_struct, takes_address, makes_slice, stores_local, mut_struct, shr_struct, own_struct, mut_slice, shr_slice, between, Passing, lent, callee, held, parts_in, said_out, sent, Walks, Passes, passes, ends}
 use denote.Struct.Laws as LL
 use types.Logic.{Logic}
 
@@ -7,8 +7,8 @@ module _ (T N : Lendable) where
   -- the function, and the one that it calls
   abbrev pub passing : Passing
   passing = record {
-    own = record { lifetimes = 4; params = shr-struct 0 tt T ∷ shr-slice 1 tt w8 ∷ mut_slice 2 tt w64 ∷ mut-struct 3 tt N ∷ []; result = plain (λ κs. unit) };
-    inner = record { lifetimes = 2; params = own-struct T ∷ shr-slice 0 tt w8 ∷ mut_slice 1 tt w64 ∷ []; result = plain (λ κs. row N.type) };
+    own = record { lifetimes = 4; params = shr_struct 0 tt T ∷ shr_slice 1 tt w8 ∷ mut_slice 2 tt w64 ∷ mut_struct 3 tt N ∷ []; result = plain (λ κs. unit) };
+    inner = record { lifetimes = 2; params = own_struct T ∷ shr_slice 0 tt w8 ∷ mut_slice 1 tt w64 ∷ []; result = plain (λ κs. row N.type) };
     down = between 2;
     passed = λ κs a. (a.0.now, (a.1.0, (a.1.1.0, tt)));
     answer = λ κs r. tt;
@@ -19,10 +19,10 @@ module _ (T N : Lendable) where
   abbrev pub reading : Name → Fn
   reading n = function 4 4 (nothing ∷ lent_struct 0 imm T.type ∷ bytes (named 1) ∷ words (named 2) mut ∷ lent_struct 3 mut N.type ∷ struct T.type ∷ struct N.type ∷ pointer ∷ words erased mut ∷ [])
       (seq (reads_struct 5 1 T.type)
-      (seq (takes-address 7 3)
-      (seq (makes-slice 8 7 3)
+      (seq (takes_address 7 3)
+      (seq (makes_slice 8 7 3)
       (seq (call n (whole_of 5 ∷ whole_of 2 ∷ whole_of 8 ∷ []) (place 6 []))
-      (seq (stores-local 4 N.type 6)
+      (seq (stores_local 4 N.type 6)
       (seq (assign (place 0 []) (rv_opd opd_unit)) return))))))
 
   module _ {M : Type 1} {𝓤 : Ura M} (𝓛 : Logic 𝓤) (c : Clauses 𝓤 (lent passing)) (k : Clauses 𝓤 (callee passing)) where
@@ -57,7 +57,7 @@ module _ (T N : Lendable) where
         freed ! 24 refl refl $ freed ! 22 refl refl $ freed ! 20 refl refl $ freed ! 18 refl refl $ freed ! 16 refl refl $ freed ! 14 refl refl $ freed ! 12 refl refl $ freed ! 10 refl refl $
         freed ! 8 refl refl $ free0 ! $
         move ! (5 ∷ []) $ ends passing 𝓛 c k ! _ κs qs a g g' enough r ws $
-        move ! (6 ∷ 7 ∷ 1 ∷ 2 ∷ 3 ∷ 4 ∷ 5 ∷ 0 ∷ []) $ given-back-shared ! 2 κs.1 qs.1 (words_of (said-out passing κs a ws))))))))))))))
+        move ! (6 ∷ 7 ∷ 1 ∷ 2 ∷ 3 ∷ 4 ∷ 5 ∷ 0 ∷ []) $ given-back-shared ! 2 κs.1 qs.1 (words_of (said_out passing κs a ws))))))))))))))
 
     pub reads-file : Passes passing 𝓛 c k reading
     reads-file = passes passing 𝓛 c k reading walk

@@ -1,5 +1,5 @@
 -- For C, a call that writes the record, the first two of five slices of words and the last.
-use Rattle.walks.specs.Tools.{refl, [], ◌∷◌, Ura, Name, Fn, named, erased, mut, imm, w64, place, opd_unit, rv_opd, seq, assign, call, cond, skip, return, flft, toks, ‵, raw, ◌⊛◌, ◌$◌, ◌∵◌, !, qed, move, fjoin, look, init, stop, hop, fld, from, addr, of_opd, unit_lit, and_then, no_more, returns, enter, alloc1, alloc0, params1, pass1, pass0, free0, agg, whole, sub, look_in, Is, u64, unit, shr_slice_Lawful, mut_slice_Lawful, plain, owned, row, Clauses, called, landed, copied, field-of, sets, freed, chosen, loads, stores, stores-if, words_of, apart, given_back, Lendable, Turned, turn, turn-laws, nothing, function, lent_struct, struct, words, pointer, flag, whole_of, reads_struct, takes-address, makes-slice, takes_field, stores-field, mut-struct, own-struct, mut_slice, shr-slice, between, Passing, lent, callee, held, parts_in, said-out, sent, Walks, Passes, passes, ends}
+use Rattle.walks.specs.Tools.{refl, [], ◌∷◌, Ura, Name, Fn, named, erased, mut, imm, w64, place, opd_unit, rv_opd, seq, assign, call, cond, skip, return, flft, toks, ‵, raw, ◌⊛◌, ◌$◌, ◌∵◌, !, qed, move, fjoin, look, init, stop, hop, fld, from, addr, of_opd, unit_lit, and_then, no_more, returns, enter, alloc1, alloc0, params1, pass1, pass0, free0, agg, whole, sub, look_in, Is, u64, unit, shr_slice_Lawful, mut_slice_Lawful, plain, owned, row, Clauses, called, landed, copied, field-of, sets, freed, chosen, loads, stores, stores-if, words_of, apart, given_back, Lendable, Turned, turn, turn_laws, nothing, function, lent_struct, struct, words, pointer, flag, whole_of, reads_struct, takes_address, makes_slice, takes_field, stores_field, mut_struct, own_struct, mut_slice, shr_slice, between, Passing, lent, callee, held, parts_in, said_out, sent, Walks, Passes, passes, ends}
 use denote.Struct.Laws as LL
 use types.Logic.{Logic}
 
@@ -7,8 +7,8 @@ module _ (T N : Lendable) (S : Turned N T) where
   -- the function, and the one that it calls
   abbrev pub passing : Passing
   passing = record {
-    own = record { lifetimes = 7; params = mut-struct 0 tt T ∷ mut_slice 1 tt w64 ∷ mut_slice 2 tt w64 ∷ shr-slice 3 tt w64 ∷ shr-slice 4 tt w64 ∷ mut_slice 5 tt w64 ∷ mut-struct 6 tt N ∷ []; result = plain (λ κs. unit) };
-    inner = record { lifetimes = 5; params = own-struct T ∷ mut_slice 0 tt w64 ∷ mut_slice 1 tt w64 ∷ shr-slice 2 tt w64 ∷ shr-slice 3 tt w64 ∷ mut_slice 4 tt w64 ∷ []; result = plain (λ κs. row (turn S)) };
+    own = record { lifetimes = 7; params = mut_struct 0 tt T ∷ mut_slice 1 tt w64 ∷ mut_slice 2 tt w64 ∷ shr_slice 3 tt w64 ∷ shr_slice 4 tt w64 ∷ mut_slice 5 tt w64 ∷ mut_struct 6 tt N ∷ []; result = plain (λ κs. unit) };
+    inner = record { lifetimes = 5; params = own_struct T ∷ mut_slice 0 tt w64 ∷ mut_slice 1 tt w64 ∷ shr_slice 2 tt w64 ∷ shr_slice 3 tt w64 ∷ mut_slice 4 tt w64 ∷ []; result = plain (λ κs. row (turn S)) };
     down = between 5;
     passed = λ κs a. (a.0.now, (a.1.0, (a.1.1.0, (a.1.1.1.0, (a.1.1.1.1.0, (a.1.1.1.1.1.0, tt))))));
     answer = λ κs r. tt;
@@ -19,16 +19,16 @@ module _ (T N : Lendable) (S : Turned N T) where
   abbrev pub replaying : Name → Fn
   replaying n = function 7 7 (nothing ∷ lent_struct 0 mut T.type ∷ words (named 1) mut ∷ words (named 2) mut ∷ words (named 3) imm ∷ words (named 4) imm ∷ words (named 5) mut ∷ lent_struct 6 mut N.type ∷ struct T.type ∷ struct (turn S) ∷ pointer ∷ words erased mut ∷ pointer ∷ words erased mut ∷ pointer ∷ words erased mut ∷ flag ∷ [])
       (seq (reads_struct 8 1 T.type)
-      (seq (takes-address 10 2)
-      (seq (makes-slice 11 10 2)
-      (seq (takes-address 12 3)
-      (seq (makes-slice 13 12 3)
-      (seq (takes-address 14 6)
-      (seq (makes-slice 15 14 6)
+      (seq (takes_address 10 2)
+      (seq (makes_slice 11 10 2)
+      (seq (takes_address 12 3)
+      (seq (makes_slice 13 12 3)
+      (seq (takes_address 14 6)
+      (seq (makes_slice 15 14 6)
       (seq (call n (whole_of 8 ∷ whole_of 11 ∷ whole_of 13 ∷ whole_of 4 ∷ whole_of 5 ∷ whole_of 15 ∷ []) (place 9 []))
       (seq (takes_field 16 9 2)
-      (seq (cond (whole_of 16) (stores-field 1 T.type 9 1) skip)
-      (seq (stores-field 7 N.type 9 0)
+      (seq (cond (whole_of 16) (stores_field 1 T.type 9 1) skip)
+      (seq (stores_field 7 N.type 9 0)
       (seq (assign (place 0 []) (rv_opd opd_unit)) return))))))))))))
 
   module _ {M : Type 1} {𝓤 : Ura M} (𝓛 : Logic 𝓤) (c : Clauses 𝓤 (lent passing)) (k : Clauses 𝓤 (callee passing)) where
@@ -64,7 +64,7 @@ module _ (T N : Lendable) (S : Turned N T) where
         move ! (0 ∷ 38 ∷ 39 ∷ []) $ fjoin ! $ called ! fm (callee passing) k known (sent passing 𝓛 c k κs a qs g') free
         (and_then ! (copied ! 20 refl) (and_then ! (copied ! 14 refl) (and_then ! (copied ! 10 refl) (and_then ! (copied ! 28 refl) (and_then ! (copied ! 26 refl) (and_then ! (copied ! 6 refl) (no_more !))))))) (λ v r ws.
         -- [the result; the tokens of the words; what is said of them; what the callee ensures; the record's; the locals; the answer's]
-        landed ! (turn S) (turn-laws S) r v l9 20 refl refl (λ made.
+        landed ! (turn S) (turn_laws S) r v l9 20 refl refl (λ made.
         sets ! (of_opd ! (field-of ! refl (look_in ! 20 (sub ! 2 refl (whole !))))) 6 refl (tt, tt) $
         move ! (3 ∷ 4 ∷ 5 ∷ []) $
         stores-if ! T.type T.laws T.plain a.0 (S.kept r) made.1.0 (S.changed r) 33 17 3 refl refl (sub ! 1 refl (whole !)) refl $
@@ -76,7 +76,7 @@ module _ (T N : Lendable) (S : Turned N T) where
         freed ! 25 refl refl $ freed ! 23 refl refl $ freed ! 21 refl refl $ freed ! 19 refl refl $ freed ! 17 refl refl $ freed ! 15 refl refl $ freed ! 13 refl refl $ freed ! 11 refl refl $
         freed ! 9 refl refl $ free0 ! $
         move ! (8 ∷ []) $ ends passing 𝓛 c k ! _ κs qs a g g' enough r ws $
-        move ! (4 ∷ 5 ∷ 6 ∷ 1 ∷ 2 ∷ 3 ∷ 7 ∷ 8 ∷ 0 ∷ []) $ given_back ! 5 κs.1 qs.1 (words_of (said-out passing κs a ws))))))))))))))))))))))
+        move ! (4 ∷ 5 ∷ 6 ∷ 1 ∷ 2 ∷ 3 ∷ 7 ∷ 8 ∷ 0 ∷ []) $ given_back ! 5 κs.1 qs.1 (words_of (said_out passing κs a ws))))))))))))))))))))))
 
     pub replays : Passes passing 𝓛 c k replaying
     replays = passes passing 𝓛 c k replaying walk

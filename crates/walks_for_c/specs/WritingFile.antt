@@ -1,5 +1,5 @@
 -- For C, a call that writes a file, with two numbers: a slice of words and one of bytes are lent to be read, and no record.
-use Rattle.walks.specs.Tools.{refl, [], ◌∷◌, Ura, Name, Fn, named, erased, mut, imm, w8, w64, place, opd_unit, rv_opd, seq, assign, call, return, toks, ‵, raw, ◌$◌, ◌∵◌, !, qed, move, look, init, stop, hop, fld, from, addr, of_opd, unit_lit, and_then, no_more, returns, enter, alloc1, alloc0, params1, pass1, pass0, free0, agg, whole, sub, look_in, u8, u64, unit, uint_Lawful, shr_slice_Lawful, mut_slice_Lawful, plain, row, Clauses, called, landed, copied, field-of, sets, freed, stores-whole, apart-last, given-back-last, Lendable, nothing, function, lent_struct, struct, slice_of, words, bytes, word, pointer-to, whole_of, takes-address-of, makes-slice, stores-local, mut-struct, mut_slice, shr-slice, number, before_last, Passing, lent, callee, held, parts_in, said-out, sent, Walks, Passes, passes, ends}
+use Rattle.walks.specs.Tools.{refl, [], ◌∷◌, Ura, Name, Fn, named, erased, mut, imm, w8, w64, place, opd_unit, rv_opd, seq, assign, call, return, toks, ‵, raw, ◌$◌, ◌∵◌, !, qed, move, look, init, stop, hop, fld, from, addr, of_opd, unit_lit, and_then, no_more, returns, enter, alloc1, alloc0, params1, pass1, pass0, free0, agg, whole, sub, look_in, u8, u64, unit, uint_Lawful, shr_slice_Lawful, mut_slice_Lawful, plain, row, Clauses, called, landed, copied, field-of, sets, freed, stores-whole, apart-last, given-back-last, Lendable, nothing, function, lent_struct, struct, slice_of, words, bytes, word, pointer_to, whole_of, takes_address_of, makes_slice, stores_local, mut_struct, mut_slice, shr_slice, number, before_last, Passing, lent, callee, held, parts_in, said_out, sent, Walks, Passes, passes, ends}
 use denote.Struct.Laws as LL
 use types.Logic.{Logic}
 
@@ -7,8 +7,8 @@ module _ (N : Lendable) where
   -- the function, and the one that it calls
   abbrev pub passing : Passing
   passing = record {
-    own = record { lifetimes = 4; params = number w64 ∷ number w64 ∷ shr-slice 0 tt w64 ∷ shr-slice 1 tt w8 ∷ mut_slice 2 tt w8 ∷ mut-struct 3 tt N ∷ []; result = plain (λ κs. unit) };
-    inner = record { lifetimes = 3; params = number w64 ∷ number w64 ∷ shr-slice 0 tt w64 ∷ shr-slice 1 tt w8 ∷ mut_slice 2 tt w8 ∷ []; result = plain (λ κs. row N.type) };
+    own = record { lifetimes = 4; params = number w64 ∷ number w64 ∷ shr_slice 0 tt w64 ∷ shr_slice 1 tt w8 ∷ mut_slice 2 tt w8 ∷ mut_struct 3 tt N ∷ []; result = plain (λ κs. unit) };
+    inner = record { lifetimes = 3; params = number w64 ∷ number w64 ∷ shr_slice 0 tt w64 ∷ shr_slice 1 tt w8 ∷ mut_slice 2 tt w8 ∷ []; result = plain (λ κs. row N.type) };
     down = before_last 3;
     passed = λ κs a. (a.0, (a.1.0, (a.1.1.0, (a.1.1.1.0, (a.1.1.1.1.0, tt)))));
     answer = λ κs r. tt;
@@ -17,11 +17,11 @@ module _ (N : Lendable) where
 
   -- the code, with the name of the one that it calls
   abbrev pub writing : Name → Fn
-  writing n = function 4 6 (nothing ∷ word ∷ word ∷ words (named 0) imm ∷ bytes (named 1) ∷ slice_of w8 (named 2) mut ∷ lent_struct 3 mut N.type ∷ struct N.type ∷ pointer-to w8 ∷ slice_of w8 erased mut ∷ [])
-      (seq (takes-address-of w8 8 5)
-      (seq (makes-slice 9 8 5)
+  writing n = function 4 6 (nothing ∷ word ∷ word ∷ words (named 0) imm ∷ bytes (named 1) ∷ slice_of w8 (named 2) mut ∷ lent_struct 3 mut N.type ∷ struct N.type ∷ pointer_to w8 ∷ slice_of w8 erased mut ∷ [])
+      (seq (takes_address_of w8 8 5)
+      (seq (makes_slice 9 8 5)
       (seq (call n (whole_of 1 ∷ whole_of 2 ∷ whole_of 3 ∷ whole_of 4 ∷ whole_of 9 ∷ []) (place 7 []))
-      (seq (stores-local 6 N.type 7)
+      (seq (stores_local 6 N.type 7)
       (seq (assign (place 0 []) (rv_opd opd_unit)) return)))))
 
   module _ {M : Type 1} {𝓤 : Ura M} (𝓛 : Logic 𝓤) (c : Clauses 𝓤 (lent passing)) (k : Clauses 𝓤 (callee passing)) where
@@ -55,7 +55,7 @@ module _ (N : Lendable) where
         freed ! 24 refl refl $ freed ! 22 refl refl $ freed ! 20 refl refl $ freed ! 18 refl refl $ freed ! 16 refl refl $ freed ! 14 refl refl $ freed ! 12 refl refl $ freed ! 10 refl refl $
         freed ! 8 refl refl $ freed ! 6 refl refl $ free0 ! $
         move ! (5 ∷ []) $ ends passing 𝓛 c k ! _ κs qs a g g' enough r ws $
-        move ! (1 ∷ 2 ∷ 3 ∷ 4 ∷ 5 ∷ 0 ∷ []) $ given-back-last ! 3 κs qs (said-out passing κs a ws)))))))))))))
+        move ! (1 ∷ 2 ∷ 3 ∷ 4 ∷ 5 ∷ 0 ∷ []) $ given-back-last ! 3 κs qs (said_out passing κs a ws)))))))))))))
 
     pub writes-file : Passes passing 𝓛 c k writing
     writes-file = passes passing 𝓛 c k writing walk

@@ -6,14 +6,14 @@ use Rattle.context.specs.Objects.{Object}
 pub mod Laws
 
 -- x without what the object marks no, where it marks all of p yes
-unfoldable pub cutWritten : ℕ → Object → ℕ → ℕ
-cutWritten p o x = elim (inside p o.yes-marks) [ true ↦ without x o.no-marks | false ↦ x ]
+unfoldable pub cut_written : ℕ → Object → ℕ → ℕ
+cut_written p o x = elim (inside p o.yes_marks) [ true ↦ without x o.no_marks | false ↦ x ]
 
 -- each object once, in order
-unfoldable pub narrowWritten : ℕ → List Object → ℕ → ℕ
-narrowWritten p [] x = x
-narrowWritten p (o ∷ os) x = narrowWritten p os (cutWritten p o x)
+unfoldable pub narrow_written : ℕ → List Object → ℕ → ℕ
+narrow_written p [] x = x
+narrow_written p (o ∷ os) x = narrow_written p os (cut_written p o x)
 
 -- the reach of p among n attributes, by written marks
-unfoldable pub reachWritten : ℕ → List Object → ℕ → ℕ
-reachWritten n os p = narrowWritten p os (full n)
+unfoldable pub reach_written : ℕ → List Object → ℕ → ℕ
+reach_written n os p = narrow_written p os (full n)

@@ -1,12 +1,12 @@
 // The reach by written marks, over objects in a flat slice, two words each: the yes marks, then the no marks. For interviews of complete
 // tables, whose rows count as having and lacking just what is written.
 ghost use Rattle.std.specs.Prelude.{◌≡◌, ◌*◌, ◌≤◌, min, length};
-ghost use Rattle.context.specs.Objects.{object, objectsOf};
-ghost use Rattle.written_marks.specs.Written.{cutWritten, narrowWritten, reachWritten};
+ghost use Rattle.context.specs.Objects.{object, objects_of};
+ghost use Rattle.written_marks.specs.Written.{cut_written, narrow_written, reach_written};
 
 // What one object leaves of x: what it does not mark no, where it marks the set yes.
 fn cut_by(yes: u64, no: u64, set: u64, x: u64) -> u64
-    ensures { result ≡ cutWritten set (object yes no) x }
+    ensures { result ≡ cut_written set (object yes no) x }
 {
     if set & yes == set {
         set_words::difference(x, no)
@@ -18,7 +18,7 @@ fn cut_by(yes: u64, no: u64, set: u64, x: u64) -> u64
 // What the first count objects leave of x.
 fn narrow_by(rows: &[u64], count: usize, set: u64, x: u64) -> u64
     requires { count * 2 ≤ length rows.now }
-    ensures { result ≡ narrowWritten set (objectsOf count rows.now) x }
+    ensures { result ≡ narrow_written set (objects_of count rows.now) x }
 {
     let mut left = x;
     let mut i = 0;
@@ -31,7 +31,7 @@ fn narrow_by(rows: &[u64], count: usize, set: u64, x: u64) -> u64
 
 // The reach by written marks of a set among the first n attributes (64 at the most), over the first count objects.
 pub fn reach_of(n: usize, rows: &[u64], count: usize, set: u64) -> u64
-    ensures { result ≡ reachWritten (min n 64) (objectsOf count rows.now) set }
+    ensures { result ≡ reach_written (min n 64) (objects_of count rows.now) set }
 {
     narrow_by(
         rows,

@@ -4,8 +4,8 @@ use Rattle.std.specs.Prelude.{◌≡◌, ◌⊎◌, List, ◌++◌, ℕ, ◌-◌
 use Rattle.session.specs.Refusals.{refusal}
 use Rattle.table_layout.specs.declared.Layout.{Layout}
 use Rattle.table_layout.specs.declared.Opened.TheVariants.{Found}
-use Rattle.table_layout.specs.Layout.{mostBytes, opened_of}
-use Rattle.mark_reading.specs.Marks.{reading, wordsRead}
+use Rattle.table_layout.specs.Layout.{most_bytes, opened_of}
+use Rattle.mark_reading.specs.Marks.{reading, words_read}
 use Rattle.same_lines.specs.Files.{SameTable}
 use Rattle.table_text.specs.Table.{text_of}
 use Rattle.table_writing.specs.declared.Written.{Written}
@@ -16,16 +16,16 @@ pub mod Again
 pub mod Theorem
 
 -- the part of a file from where its names begin up to an offset
-abbrev pub namesUpTo : List ℕ → Layout → ℕ → List ℕ
-namesUpTo file l end = take (end - l.object_names) (drop l.object_names file)
+abbrev pub names_up_to : List ℕ → Layout → ℕ → List ℕ
+names_up_to file l end = take (end - l.object_names) (drop l.object_names file)
 
 -- the text of what was read of a file into row words, and the call that writes it into an output
-abbrev pub textAgain : List ℕ → Layout → List ℕ → ℕ → List ℕ
-textAgain file l ws end = text_of l.attributes l.objects (wordsRead file ws) (namesUpTo file l end)
+abbrev pub text_again : List ℕ → Layout → List ℕ → ℕ → List ℕ
+text_again file l ws end = text_of l.attributes l.objects (words_read file ws) (names_up_to file l end)
 
 abbrev pub WritesAgain : List ℕ → Layout → List ℕ → ℕ → List ℕ → Written → List ℕ → Type 0
 WritesAgain file l ws end out x out' =
-    WritesFrom l.attributes l.objects (wordsRead file ws) (namesUpTo file l end) out x out'
+    WritesFrom l.attributes l.objects (words_read file ws) (names_up_to file l end) out x out'
 
 -- The text is read as a table that says the same as the file's; and what is read of it, into any row words, and written once more, into
 -- any output that has room for it, is the same bytes.
@@ -40,6 +40,6 @@ pub record Settles (file : List ℕ) (l : Layout) (text : List ℕ) : Type 0 whe
 -- what is written of a file settles, or it is refused with 30, as it is longer than a table file or than the output
 abbrev pub SettlesOr30 : List ℕ → Layout → List ℕ → ℕ → List ℕ → Written → List ℕ → Type 0
 SettlesOr30 file l ws end out x out' =
-    let text = textAgain file l ws end in
-    ((x ≡ Refused (refusal 30 0)) × ((mostBytes < length text) ⊎ (length out < length text)))
+    let text = text_again file l ws end in
+    ((x ≡ Refused (refusal 30 0)) × ((most_bytes < length text) ⊎ (length out < length text)))
     ⊎ ((x ≡ Bytes (length text)) × (out' ≡ text ++ drop (length text) out) × Settles file l text)

@@ -1,9 +1,9 @@
 // The table file for C. A call that only reads takes the layout by `&`; an opening stores it where it changed; writing needs none.
 ghost use Rattle.std.specs.Prelude.{◌≡◌};
 ghost use Rattle.table_layout.specs.Layout.{opened_of};
-ghost use Rattle.complete_tables.specs.Complete.{openedComplete};
-ghost use Rattle.name_spans.specs.Spans.{objectSpan, attributeSpan};
-ghost use Rattle.coded_tables.specs.Tables.{OpensTableOn, ReadsMarks, codeOfSpan};
+ghost use Rattle.complete_tables.specs.Complete.{opened_complete};
+ghost use Rattle.name_spans.specs.Spans.{object_span, attribute_span};
+ghost use Rattle.coded_tables.specs.Tables.{OpensTableOn, ReadsMarks, code_of_span};
 ghost use Rattle.coded_writing.specs.Writing.{WritesCoded};
 
 // Opens a table file: the layout found there, or the given one where it is refused.
@@ -30,7 +30,7 @@ pub extern "C" fn zundrafl_open_complete_table(
     file: &[u8],
     answer: &mut answer_words::Answer,
 )
-    ensures { OpensTableOn (openedComplete file.now) layout answer }
+    ensures { OpensTableOn (opened_complete file.now) layout answer }
 {
     let held = *layout;
     let found = coded_tables::open_complete(held, file);
@@ -63,7 +63,7 @@ pub extern "C" fn zundrafl_object_name(
     number: usize,
     answer: &mut answer_words::Answer,
 )
-    ensures { answer.new ≡ codeOfSpan (objectSpan file.now layout.now number) }
+    ensures { answer.new ≡ code_of_span (object_span file.now layout.now number) }
 {
     *answer = coded_names::object_name(*layout, file, number);
 }
@@ -76,7 +76,7 @@ pub extern "C" fn zundrafl_attribute_name(
     number: usize,
     answer: &mut answer_words::Answer,
 )
-    ensures { answer.new ≡ codeOfSpan (attributeSpan file.now layout.now number) }
+    ensures { answer.new ≡ code_of_span (attribute_span file.now layout.now number) }
 {
     *answer = coded_names::attribute_name(*layout, file, number);
 }

@@ -7,10 +7,10 @@ use Rattle.theory.specs.Implications.{Implication}
 use Rattle.machine.specs.Checks.{State}
 use Rattle.machine.specs.Machine.{Call, follow, refute, Answer, finished, moved, asked, taken, followed, refuted, unrefuted, refuting, refused, perform, Opening, opened, rejected}
 use Rattle.demands.specs.Facts.Refused.{small-number, opening-number}
-use Rattle.demands.specs.ShownResults.Laws.{never-said-both}
-use Rattle.machine.specs.Calls.{openingFrom}
+use Rattle.demands.specs.ShownResults.Laws.{never_said_both}
+use Rattle.machine.specs.Calls.{opening_from}
 use Rattle.answer_words.specs.declared.Answer.{Answer as Coded}
-use Rattle.answer_words.specs.Codes.{coded, code_of, answer_in, codeOfOpening, isOpened}
+use Rattle.answer_words.specs.Codes.{coded, code_of, answer_in, code_of_opening, is_opened}
 
 -- the answer can be read back from its words, where a refusal has a number below 100
 read-words : (a : Answer) → ((r : Refusal) → a ≡ refused r → r.number < 100) → answer_in (code_of a) ≡ a
@@ -63,7 +63,7 @@ pub never-both-coded : (s : State) (r : Implication ℕ) (x y : Coded) → x ≡
     → x ≡ coded 104 1 0 → (k : ℕ) → y ≡ coded 105 k 0 → ⊥
 unfolding answer_in
 never-both-coded s r x y e f a k b =
-    never-said-both s r k (words-tell s (follow r) x e ∙ ap answer_in a) (words-tell s (refute r) y f ∙ ap answer_in b)
+    never_said_both s r k (words-tell s (follow r) x e ∙ ap answer_in a) (words-tell s (refute r) y f ∙ ap answer_in b)
 
 -- only a refusal has a code below 100
 pub small-code : (a : Answer) → (code_of a).code < 100 → (r : Refusal) × (a ≡ refused r)
@@ -79,11 +79,11 @@ small-code refuting h = absurd (omega arith)
 small-code (refused r) h = (r, refl)
 
 -- an opening with a code of 100 or more is accepted
-pub opening_code : (n used : ℕ) (rows list background : List ℕ) → ((codeOfOpening (openingFrom n used rows list background)).code < 100 → ⊥)
-    → isOpened (openingFrom n used rows list background) ≡ true
-opening_code n used rows list background h = go (openingFrom n used rows list background) refl
+pub opening_code : (n used : ℕ) (rows list background : List ℕ) → ((code_of_opening (opening_from n used rows list background)).code < 100 → ⊥)
+    → is_opened (opening_from n used rows list background) ≡ true
+opening_code n used rows list background h = go (opening_from n used rows list background) refl
   where
-    go : (o : Opening) → openingFrom n used rows list background ≡ o → isOpened (openingFrom n used rows list background) ≡ true
+    go : (o : Opening) → opening_from n used rows list background ≡ o → is_opened (opening_from n used rows list background) ≡ true
     go (opened s) e = rw e
     go (rejected r) e =
         let k = opening-number n _ _ _ r e in

@@ -5,16 +5,16 @@ use Rattle.attribute_set.specs.Sets.{digit}
 use Rattle.attribute_set.specs.Lectic.{Before}
 
 pub record Cases : Type 0 where
-  pub two-one : Before 4 2
-  pub one-zero : Before 2 1
+  pub two_one : Before 4 2
+  pub one_zero : Before 2 1
 
 pub cases : Cases
 cases = record {
-  two-one = record {
+  two_one = record {
     at = 1;
     lacks = refl;
     holds = refl;
     agree = λ i h. subst (λ (k : ℕ). digit 4 k ≡ digit 2 k) {x = 0} (omega arith) refl;
   };
-  one-zero = record { at = 0; lacks = refl; holds = refl; agree = λ i h. absurd (omega arith) };
+  one_zero = record { at = 0; lacks = refl; holds = refl; agree = λ i h. absurd (omega arith) };
 }

@@ -3,14 +3,14 @@ use mathlib.Core.Path.{refl}
 use Prim.Native.Nat.{◌+◌, ◌-◌, ◌<◌}
 use borrow.Author.Rules.{rules}
 use native.Mathlib.Omega.{arith}
-use Rattle.call_logs.specs.Replay.{logWords}
+use Rattle.call_logs.specs.Replay.{log_words}
 use Rattle.call_logs.specs.Replay.Loop.{Going, going_start, going_on, going_end}
 use Rattle.call_logs.proofs.replay.Statement.{statement}
 use Rattle.call_logs.proofs.replay.Tie as tie
 
 abbrev invariant-loop : tie.invariant-loop
 invariant-loop rows₀ list₀ background calls answers₀ count current₀ i₀ rows list answers current i =
-    Going background calls current₀ (logWords rows₀ list₀ answers₀) current (logWords rows list answers) i
+    Going background calls current₀ (log_words rows₀ list₀ answers₀) current (log_words rows list answers) i
 
 abbrev decreases-loop : tie.decreases-loop
 decreases-loop rows₀ list₀ background calls answers₀ count current₀ i₀ rows list answers current i = count - i
@@ -31,7 +31,7 @@ fits : (c : tie.In-loop invariant-loop decreases-loop) → c.before.loop.i + 1 <
 fits c = omega arith
 
 returns : tie.Need-returns invariant-loop decreases-loop
-returns c = record { short = c.if1.true; same-record = refl; same-words = refl }
+returns c = record { short = c.if1.true; same_record = refl; same_words = refl }
 
 loop-holds : tie.Need-loop-init invariant-loop decreases-loop
 loop-holds c = going_start _ _ _ _
@@ -51,7 +51,7 @@ loop-again c =
     let d = turn w in
     let l = d.before.loop in
     let called = (made w).replay-one in
-    going_on _ _ _ _ l.current (logWords l.rows l.list l.answers) l.i l.inv d.loop-test.taken (omega arith)
+    going_on _ _ _ _ l.current (log_words l.rows l.list l.answers) l.i l.inv d.loop-test.taken (omega arith)
     called.result.answer _ _ _ _ called.ensures w.write-answer.ensures
 
 returns-2 : tie.Need-returns-2 invariant-loop decreases-loop

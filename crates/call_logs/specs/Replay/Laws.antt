@@ -11,18 +11,18 @@ use Rattle.implication.specs.Closure.{implication}
 use Rattle.context.specs.Objects.{Object, object}
 use Rattle.context.specs.Filling.Laws.{length-filled}
 use Rattle.session.specs.declared.Refusal.{Refusal}
-use Rattle.machine.specs.Checks.{State, firstFailing, question}
-use Rattle.machine.specs.Machine.{Call, step, accept, reject, follow, refute, test, file, fill, taken, refused, Turn, turn, afterFiling, afterFill, performed, checksOf, perform}
+use Rattle.machine.specs.Checks.{State, first_failing, question}
+use Rattle.machine.specs.Machine.{Call, step, accept, reject, follow, refute, test, file, fill, taken, refused, Turn, turn, after_filing, after_fill, performed, checks_of, perform}
 use Rattle.machine.specs.Machine.Laws.{perform-cases, fill-used, step-cases}
-use Rattle.machine.specs.Calls.{state_of, rows_by, listBy}
-use Rattle.machine.specs.Calls.Laws.{rows-kept, list-kept}
+use Rattle.machine.specs.Calls.{state_of, rows_by, list_by}
+use Rattle.machine.specs.Calls.Laws.{rows_kept, list_kept}
 use Rattle.session.specs.declared.Session.{Session}
 use Rattle.session.specs.Choice.{chosen}
-use Rattle.session.specs.Records.{sameSession}
+use Rattle.session.specs.Records.{same_session}
 use Rattle.session.specs.Records.Laws.{same-equal}
 use Rattle.answer_words.specs.declared.Answer.{Answer as Coded}
 use Rattle.logged_calls.specs.Kinds.{ReplaysFrom}
-use Rattle.call_logs.specs.Replay.{replayCode, replayAfter, PastKept, LogWords, codeOfLog, ReplaySays}
+use Rattle.call_logs.specs.Replay.{replay_code, replay_after, PastKept, LogWords, code_of_log, ReplaySays}
 use Rattle.call_logs.specs.declared.Log.{Log}
 
 -- ---- one call
@@ -53,7 +53,7 @@ module _ (s s' : Session) (background rows list rows' list' : List ℕ) where
 
   -- what a turn of this call leaves past the words in use
   abbrev Leaves : Call → Turn → Type 0
-  Leaves c t = state_of s' rows' list' background ≡ t.after → rows' ≡ rows_by c t.answer before rows → list' ≡ listBy c t.answer before list
+  Leaves c t = state_of s' rows' list' background ≡ t.after → rows' ≡ rows_by c t.answer before rows → list' ≡ list_by c t.answer before list
       → PastKept s.rows s'.rows rows rows' × PastKept s.rules s'.rules list list'
 
   -- the counts, where the state's rows or list are as they were, or one longer
@@ -75,7 +75,7 @@ module _ (s s' : Session) (background rows list rows' list' : List ℕ) where
   same-leaves x r l is p q = (rows-still x is r p, list-still x is l q)
 
   -- a filing, and so a no
-  filed-leaves : (o : Object) → Leaves (file o) (turn taken (afterFiling before o))
+  filed-leaves : (o : Object) → Leaves (file o) (turn taken (after_filing before o))
   filed-leaves o is p q = (
     put-past _ _ (length before.rows) _ _ rows rows' (sym (length_pairs object s.rows rows))
         (rows-counted _ is ∙ length-append before.rows (o ∷ [])) p,
@@ -83,12 +83,12 @@ module _ (s s' : Session) (background rows list rows' list' : List ℕ) where
   )
 
   -- a filling of row j, in use
-  filled-leaves : (j : ℕ) (m : Object) → j < length before.rows → Leaves (fill j m) (turn taken (afterFill before j m))
+  filled-leaves : (j : ℕ) (m : Object) → j < length before.rows → Leaves (fill j m) (turn taken (after_fill before j m))
   filled-leaves j m used is p q =
       let count = length_pairs object s.rows rows in
       (set_past _ _ j _ _ rows rows' (subst (λ i. j < i) count used) (rows-counted _ is ∙ length-filled m j before.rows ∙ count) p, list-still _ is refl q)
 
-  performed-leaves : (c : Call) → firstFailing (checksOf before c) ≡ none → Leaves c (performed before c)
+  performed-leaves : (c : Call) → first_failing (checks_of before c) ≡ none → Leaves c (performed before c)
   unfolding performed
   performed-leaves step e = step-cases before (Leaves step) (λ d. same-leaves _ refl refl) (λ a b. same-leaves _ refl refl) (λ a b. same-leaves _ refl refl)
   performed-leaves accept e = λ is p q. (
@@ -104,14 +104,14 @@ module _ (s s' : Session) (background rows list rows' list' : List ℕ) where
   performed-leaves (fill j m) e = filled-leaves j m (fill-used before j m e)
 
   refused-leaves : (c : Call) (r : Refusal) → Leaves c (turn (refused r) before)
-  refused-leaves c r is p q = same-leaves _ refl refl is (p ∙ rows-kept c r before rows) (q ∙ list-kept c r before list)
+  refused-leaves c r is p q = same-leaves _ refl refl is (p ∙ rows_kept c r before rows) (q ∙ list_kept c r before list)
 
   perform-leaves : (c : Call) → Leaves c (perform before c)
   perform-leaves c = perform-cases before c (Leaves c) (performed-leaves c) (λ r e. refused-leaves c r)
 
   -- one call of a log: its code, the state after it, and the words past those in use
   pub replayed : (o : Option Call) (x : Coded) → ReplaysFrom o s rows list background x s' rows' list'
-      → (x ≡ replayCode before o) × ((state_of s' rows' list' background ≡ replayAfter before o)
+      → (x ≡ replay_code before o) × ((state_of s' rows' list' background ≡ replay_after before o)
       × (PastKept s.rows s'.rows rows rows' × PastKept s.rules s'.rules list list'))
   replayed none x (e, (f, (p, q))) = (
     e,
@@ -128,17 +128,17 @@ module _ (s s' : Session) (background rows list rows' list' : List ℕ) where
 -- ---- the record after a replay
 
 -- a record that is stored only where it changed
-pub replays-kept : (s after : Session) (changed : Bool) → changed ≡ not (sameSession s after) → chosen changed after s ≡ after
-replays-kept s after changed e = go changed (sameSession s after) refl e
+pub replays-kept : (s after : Session) (changed : Bool) → changed ≡ not (same_session s after) → chosen changed after s ≡ after
+replays-kept s after changed e = go changed (same_session s after) refl e
   where
-    go : (b same : Bool) → sameSession s after ≡ same → b ≡ not same → chosen b after s ≡ after
+    go : (b same : Bool) → same_session s after ≡ same → b ≡ not same → chosen b after s ≡ after
     go true same f h = refl
     go false true f h = same-equal s after f
     go false false f h = absurd (true≢false (sym h))
 
 -- so that what a replay says of the record after it holds of the one that is stored
 pub replayed-kept : (background calls : List ℕ) (s : Session) (before : LogWords) (after : Session) (words : LogWords) (x : Coded) (changed : Bool)
-    → ((log : Log) × (x ≡ codeOfLog log) × ReplaySays background calls s before after words log) × (changed ≡ not (sameSession s after))
-    → (log : Log) × (x ≡ codeOfLog log) × ReplaySays background calls s before (chosen changed after s) words log
+    → ((log : Log) × (x ≡ code_of_log log) × ReplaySays background calls s before after words log) × (changed ≡ not (same_session s after))
+    → (log : Log) × (x ≡ code_of_log log) × ReplaySays background calls s before (chosen changed after s) words log
 replayed-kept background calls s before after words x changed h =
-    subst (λ z. (log : Log) × (x ≡ codeOfLog log) × ReplaySays background calls s before z words log) (sym (replays-kept s after changed h.1)) h.0
+    subst (λ z. (log : Log) × (x ≡ code_of_log log) × ReplaySays background calls s before z words log) (sym (replays-kept s after changed h.1)) h.0

@@ -14,7 +14,7 @@ use Rattle.machine.specs.Machine.{Call, run}
 use Rattle.machine.specs.Calls.{state_of}
 use Rattle.answer_words.specs.declared.Answer.{Answer as Coded}
 use Rattle.logged_calls.specs.Kinds.{call_of, ReplaysFrom}
-use Rattle.call_logs.specs.Replay.{calls_of, stored, replayAfter, known, answersOf, PastKept, LogWords, logWords, logOf, AllMade}
+use Rattle.call_logs.specs.Replay.{calls_of, stored, replay_after, known, answers_of, PastKept, LogWords, log_words, log_of, AllMade}
 use Rattle.call_logs.specs.Replay.Laws.{replayed}
 use Rattle.session.specs.declared.Session.{Session}
 
@@ -25,10 +25,10 @@ abbrev pub call_at : List ℕ → ℕ → Option Call
 call_at ws i = call_of (get_or ws (i * 4) 0) (get_or ws (i * 4 + 1) 0) (get_or ws (i * 4 + 2) 0) (get_or ws (i * 4 + 3) 0)
 
 -- the calls from i on, of n
-abbrev pub callsFrom : ℕ → ℕ → List ℕ → List (Option Call)
-callsFrom n i ws = calls_of (n - i) (drop (i * 4) ws)
+abbrev pub calls_from : ℕ → ℕ → List ℕ → List (Option Call)
+calls_from n i ws = calls_of (n - i) (drop (i * 4) ws)
 
-pub calls_at : (ws : List ℕ) (n i : ℕ) → i < n → callsFrom n i ws ≡ call_at ws i ∷ callsFrom n (i + 1) ws
+pub calls_at : (ws : List ℕ) (n i : ℕ) → i < n → calls_from n i ws ≡ call_at ws i ∷ calls_from n (i + 1) ws
 unfolding calls_of
 calls_at ws n i h =
     let e : n - i ≡ suc (n - (i + 1)) = omega arith in
@@ -42,14 +42,14 @@ calls_at ws n i h =
     rw e (rw (k, a, b, c, d) refl)
 
 -- no call is left
-pub calls-end : (ws : List ℕ) (n i : ℕ) → n ≤ i → callsFrom n i ws ≡ []
+pub calls-end : (ws : List ℕ) (n i : ℕ) → n ≤ i → calls_from n i ws ≡ []
 unfolding calls_of
 calls-end ws n i h =
     let e : n - i ≡ 0 = omega arith in
     rw e
 
 -- a call of unknown kind changes nothing, so that it may be left out
-pub run-known : (s : State) (c : Option Call) (cs : List (Option Call)) → run s (known (c ∷ cs)) ≡ run (replayAfter s c) (known cs)
+pub run-known : (s : State) (c : Option Call) (cs : List (Option Call)) → run s (known (c ∷ cs)) ≡ run (replay_after s c) (known cs)
 unfolding run known
 run-known s none cs = refl
 run-known s (some c) cs = refl
@@ -102,10 +102,10 @@ past-trans {k} {k'} {k''} {a} {b} {c} p q = record {
 pub record Going (background calls : List ℕ) (s : Session) (before : LogWords) (s' : Session) (after : LogWords) (i : ℕ) : Type 0 where
   pub inside : i ≤ length calls / 4
   pub room : length after.answers ≡ length before.answers
-  pub holds : run (state_of s' after.rows after.list background) (known (callsFrom (length calls / 4) i calls))
-      ≡ run (state_of s before.rows before.list background) (known (logOf calls))
-  pub answers : take (i * 3) after.answers ++ answersOf (state_of s' after.rows after.list background) (callsFrom (length calls / 4) i calls)
-      ≡ answersOf (state_of s before.rows before.list background) (logOf calls)
+  pub holds : run (state_of s' after.rows after.list background) (known (calls_from (length calls / 4) i calls))
+      ≡ run (state_of s before.rows before.list background) (known (log_of calls))
+  pub answers : take (i * 3) after.answers ++ answers_of (state_of s' after.rows after.list background) (calls_from (length calls / 4) i calls)
+      ≡ answers_of (state_of s before.rows before.list background) (log_of calls)
   pub past : drop (i * 3) after.answers ≡ drop (i * 3) before.answers
   pub rows : PastKept s.rows s'.rows before.rows after.rows
   pub list : PastKept s.rules s'.rules before.list after.list
@@ -127,8 +127,8 @@ module _ (background calls : List ℕ) (s : Session) (before : LogWords) where
       → (e : Coded) (s'' : Session) (rows list : List ℕ)
       → ReplaysFrom (call_at calls i) s' after.rows after.list background e s'' rows list
       → Going background calls s before s''
-      (logWords rows list (stored after.answers i e)) (i + 1)
-  unfolding answersOf
+      (log_words rows list (stored after.answers i e)) (i + 1)
+  unfolding answers_of
   going-stored s' after i g h fits e s'' rows list m =
       let one = replayed s' s'' background after.rows after.list rows list (call_at calls i) e m in
       let answered = one.0 in
@@ -137,17 +137,17 @@ module _ (background calls : List ℕ) (s : Session) (before : LogWords) where
       let x : State = state_of s' after.rows after.list background in
       let y : State = state_of s'' rows list background in
       let c = call_at calls i in
-      let left = callsFrom n (i + 1) calls in
+      let left = calls_from n (i + 1) calls in
       let at = calls_at calls n i h in
       record {
         inside = omega arith;
         room = simp length-set g.room;
         holds = ap (λ (z : State). run z (known left)) stands ∙ sym (run-known x c left) ∙ ap (λ cs. run x (known cs)) (sym at) ∙ g.holds;
-        answers = ap (λ (t : List ℕ). t ++ answersOf y left) (take-stored after.answers i e.code e.first e.second (omega arith))
-            ∙ append_assoc (take (i * 3) after.answers) (e.code ∷ e.first ∷ e.second ∷ []) (answersOf y left)
-            ∙ ap (λ (z : State). take (i * 3) after.answers ++ (e.code ∷ e.first ∷ e.second ∷ answersOf z left)) stands
-            ∙ ap (λ (d : Coded). take (i * 3) after.answers ++ (d.code ∷ d.first ∷ d.second ∷ answersOf (replayAfter x c) left)) answered
-            ∙ ap (λ cs. take (i * 3) after.answers ++ answersOf x cs) (sym at)
+        answers = ap (λ (t : List ℕ). t ++ answers_of y left) (take-stored after.answers i e.code e.first e.second (omega arith))
+            ∙ append_assoc (take (i * 3) after.answers) (e.code ∷ e.first ∷ e.second ∷ []) (answers_of y left)
+            ∙ ap (λ (z : State). take (i * 3) after.answers ++ (e.code ∷ e.first ∷ e.second ∷ answers_of z left)) stands
+            ∙ ap (λ (d : Coded). take (i * 3) after.answers ++ (d.code ∷ d.first ∷ d.second ∷ answers_of (replay_after x c) left)) answered
+            ∙ ap (λ cs. take (i * 3) after.answers ++ answers_of x cs) (sym at)
             ∙ g.answers;
         past = drop-stored after.answers i e.code e.first e.second
             ∙ drop_more (i * 3) ((i + 1) * 3) after.answers before.answers (omega arith) g.past;
@@ -158,27 +158,27 @@ module _ (background calls : List ℕ) (s : Session) (before : LogWords) where
   pub going_on : (s' : Session) (after : LogWords) (i : ℕ) → Going background calls s before s' after i → i < length calls / 4 → (i + 1) * 3 ≤ length before.answers
       → (e : Coded) (s'' : Session) (rows list answers : List ℕ)
       → ReplaysFrom (call_at calls i) s' after.rows after.list background e s'' rows list → answers ≡ stored after.answers i e
-      → Going background calls s before s'' (logWords rows list answers) (i + 1)
+      → Going background calls s before s'' (log_words rows list answers) (i + 1)
   going_on s' after i g h fits e s'' rows list answers m is =
-      subst (λ ws. Going background calls s before s'' (logWords rows list ws) (i + 1)) (sym is) (going-stored s' after i g h fits e s'' rows list m)
+      subst (λ ws. Going background calls s before s'' (log_words rows list ws) (i + 1)) (sym is) (going-stored s' after i g h fits e s'' rows list m)
 
   -- no call is left
   pub going_end : (s' : Session) (after : LogWords) (i : ℕ) → Going background calls s before s' after i → length calls / 4 ≤ i
       → AllMade background calls s before s' after
-  unfolding run known answersOf
+  unfolding run known answers_of
   going_end s' after i g h =
       let n = length calls / 4 in
       let x : State = state_of s' after.rows after.list background in
       let end = calls-end calls n i h in
       let j : i ≡ n = omega arith in
-      let o : take (i * 3) after.answers ≡ answersOf (state_of s before.rows before.list background) (logOf calls) =
-      sym (append-nil _) ∙ ap (λ cs. take (i * 3) after.answers ++ answersOf x cs) (sym end) ∙ g.answers in
+      let o : take (i * 3) after.answers ≡ answers_of (state_of s before.rows before.list background) (log_of calls) =
+      sym (append-nil _) ∙ ap (λ cs. take (i * 3) after.answers ++ answers_of x cs) (sym end) ∙ g.answers in
       record {
         holds = ap (λ cs. run x (known cs)) (sym end) ∙ g.holds;
         answers = sym (take-append-drop (i * 3) after.answers)
             ∙ ap (λ (t : List ℕ). t ++ drop (i * 3) after.answers) o
-            ∙ ap (λ (t : List ℕ). answersOf (state_of s before.rows before.list background) (logOf calls) ++ t) g.past
-            ∙ ap (λ (m : ℕ). answersOf (state_of s before.rows before.list background) (logOf calls) ++ drop (m * 3) before.answers) j;
+            ∙ ap (λ (t : List ℕ). answers_of (state_of s before.rows before.list background) (log_of calls) ++ t) g.past
+            ∙ ap (λ (m : ℕ). answers_of (state_of s before.rows before.list background) (log_of calls) ++ drop (m * 3) before.answers) j;
         rows = g.rows;
         list = g.list;
       }

@@ -11,12 +11,12 @@ use borrow.Author.Rules.{rules}
 use borrow.Author.Tests.{le-leb, lt-leb}
 use Rattle.implication.specs.Pairs.Laws.{length_pairs}
 use Rattle.context.specs.Objects.{Object, object, contradicts}
-use Rattle.machine.specs.Checks.{State, force, Check, check, badRow, firstFailing, filingChecks}
+use Rattle.machine.specs.Checks.{State, force, Check, check, bad_row, first_failing, filing_checks}
 use Rattle.machine.specs.Checks.Laws.{passed, failing-append, failing-first, failing-here, failing-later, failing-nothing}
 use Rattle.machine.specs.Calls.{state_of}
 use Rattle.size_checks.specs.declared.Verdict.{Verdict}
-use Rattle.size_checks.specs.Verdicts.{verdictOf}
-use Rattle.session_replies.specs.Answers.{refusedWith}
+use Rattle.size_checks.specs.Verdicts.{verdict_of}
+use Rattle.session_replies.specs.Answers.{refused_with}
 use Rattle.checked_filing.specs.Checked.Laws.{filed-refused, filed-taken}
 use Rattle.checked_filing.proofs.file_checked.Statement.{statement}
 use Rattle.checked_filing.proofs.file_checked.Tie as tie
@@ -32,27 +32,27 @@ offered c = object (start c).args.yes (start c).args.no
 
 -- checks 9 and 11, and check 12
 abbrev early : tie.After-check-filed-row → List Check
-early c = let s = state c in check 9 (badRow s.n (offered c)) 0 ∷ check 11 (contradicts (force s) (offered c)) 0 ∷ []
+early c = let s = state c in check 9 (bad_row s.n (offered c)) 0 ∷ check 11 (contradicts (force s) (offered c)) 0 ∷ []
 
 abbrev twelve : tie.After-check-filed-row → Check
 twelve c = let s = state c in check 12 (leb (s.lent.rows / 2) (length s.rows)) 0
 
-tested : (c : tie.After-check-filed-row) (x : Verdict) → c.check-filed-row.result ≡ x → firstFailing (early c) ≡ verdictOf x
-tested c x e = sym (sym (ap verdictOf e) ∙ c.check-filed-row.ensures)
+tested : (c : tie.After-check-filed-row) (x : Verdict) → c.check-filed-row.result ≡ x → first_failing (early c) ≡ verdict_of x
+tested c x e = sym (sym (ap verdict_of e) ∙ c.check-filed-row.ensures)
 
 -- 9 and 11 pass, and check 12 decides
 abbrev checked : tie.After-enum-told → tie.After-check-filed-row
 checked c = c.before.before
 
 after-eleven : (c : tie.After-enum-told)
-    → firstFailing (filingChecks (state (checked c)) (offered (checked c))) ≡ firstFailing (twelve (checked c) ∷ [])
-unfolding filingChecks
+    → first_failing (filing_checks (state (checked c)) (offered (checked c))) ≡ first_failing (twelve (checked c) ∷ [])
+unfolding filing_checks
 after-eleven c =
     let d = checked c in
     failing-append (early d) (twelve d ∷ []) (passed (early d) (tested d _ c.enum_told.given.1))
 
 returns : tie.Need-returns
-unfolding filingChecks
+unfolding filing_checks
 returns c =
     let d = c.before.before.before.before in
     filed-refused _ c.refused.ensures (failing-first (early d) (twelve d ∷ []) _ (tested d _ c.before.before.outcome.given.1))
@@ -63,7 +63,7 @@ returns-2 c =
     let d = checked t.before in
     let a = (start d).args in
     let full : (twelve d).fails ≡ true = rw length_pairs (le-leb (length a.rows.now / 2) a.session.rows (omega arith)) in
-    filed-refused _ (c.refused2.ensures ∙ ap (refusedWith a.session) c.before.refuse.ensures)
+    filed-refused _ (c.refused2.ensures ∙ ap (refused_with a.session) c.before.refuse.ensures)
     (after-eleven t.before ∙ failing-here (twelve d) [] full)
 
 -- there is a place

@@ -8,7 +8,7 @@ use native.Mathlib.Nat.{sub-zero}
 use lib.ListN.{length, take, drop}
 use borrow.Author.Rules.{rules}
 use Rattle.table_lines.specs.Pieces.{lines_of}
-use Rattle.closed_lines.specs.Closed.{bytesIn, first_lines}
+use Rattle.closed_lines.specs.Closed.{bytes_in, first_lines}
 use Rattle.closed_lines.specs.Closed.Laws.{first-at, first-none, first-end, LineFound, line-found}
 use Rattle.closed_lines.proofs.size_of_lines.Statement.{statement}
 use Rattle.closed_lines.proofs.size_of_lines.Tie as tie
@@ -16,7 +16,7 @@ use Rattle.closed_lines.proofs.size_of_lines.Tie as tie
 abbrev invariant-loop : tie.invariant-loop
 invariant-loop bytes count size₀ from₀ i₀ size from i =
     (i ≤ count) × (size ≤ from) × (from ≤ length bytes)
-    × (size + bytesIn (take (count - i) (lines_of (drop from bytes))) ≡ bytesIn (first_lines count bytes))
+    × (size + bytes_in (take (count - i) (lines_of (drop from bytes))) ≡ bytes_in (first_lines count bytes))
 
 abbrev decreases-loop : tie.decreases-loop
 decreases-loop bytes count size₀ from₀ i₀ size from i = count - i
@@ -38,11 +38,11 @@ loop-holds : tie.Need-loop-init invariant-loop decreases-loop
 loop-holds c = (omega arith, omega arith, omega arith, rw sub-zero (omega arith))
 
 returns : tie.Need-returns invariant-loop decreases-loop
-unfolding bytesIn
+unfolding bytes_in
 returns c =
     let t = c.before.before in
     let l = t.loop in
-    let e = ap bytesIn (first-end (bytes t) t.before.before.args.count l.i l.from c.if1.true) in
+    let e = ap bytes_in (first-end (bytes t) t.before.before.args.count l.i l.from c.if1.true) in
     omega (arith, l.invariant, e)
 
 add-size : tie.Need-overflow-add-size invariant-loop decreases-loop
@@ -52,21 +52,21 @@ add-from : tie.Need-overflow-add-from invariant-loop decreases-loop
 add-from c = omega (arith, found (line c))
 
 loop-again : tie.Need-loop-preserved invariant-loop decreases-loop
-unfolding bytesIn
+unfolding bytes_in
 loop-again c =
     let d = line c in
     let f = found d in
     let t = turn d in
     let l = t.loop in
-    let e = ap bytesIn (first-at (bytes t) t.before.before.args.count l.i l.from (omega arith) d.before.if1.left) in
+    let e = ap bytes_in (first-at (bytes t) t.before.before.args.count l.i l.from (omega arith) d.before.if1.left) in
     rw f.next (omega arith, omega (arith, f, l.inv), f.inside, omega (arith, f, l.inv, e))
 
 returns-2 : tie.Need-returns-2 invariant-loop decreases-loop
-unfolding bytesIn
+unfolding bytes_in
 returns-2 c =
     let t = c.before in
     let l = t.loop in
-    let e = ap bytesIn (first-none (bytes t) t.before.before.args.count l.i l.from c.loop-test.false) in
+    let e = ap bytes_in (first-none (bytes t) t.before.before.args.count l.i l.from c.loop-test.false) in
     omega (arith, l.invariant, e)
 
 pub size-of-lines-spec : {M : Type 1} → statement M

@@ -8,16 +8,16 @@ use Rattle.theory.specs.Lists.{All}
 use Rattle.table_lines.specs.Lines.{NoEnd, line_of, bytes_at, after}
 use Rattle.table_lines.specs.declared.Line.{Line}
 use Rattle.table_lines.specs.Lines.Laws.{bytes-length, bytes_inside, size-inside, after-inside}
-use Rattle.table_lines.specs.Pieces.{lines_of, piecesFrom}
+use Rattle.table_lines.specs.Pieces.{lines_of, pieces_from}
 use Rattle.table_lines.specs.Pieces.Laws.{lines_none, lines_at, lines_end, lines-ended}
-use Rattle.closed_lines.specs.Closed.{closed, bytesIn, first_lines}
+use Rattle.closed_lines.specs.Closed.{closed, bytes_in, first_lines}
 
 -- computed: an empty line between two others; the first two lines of three, whatever their ends, and all of them where more are asked for
 cases : (closed ((66 ∷ []) ∷ [] ∷ (49 ∷ []) ∷ []) ≡ 66 ∷ 10 ∷ 10 ∷ 49 ∷ 10 ∷ [])
     × (first_lines 2 (97 ∷ 13 ∷ 98 ∷ 13 ∷ 10 ∷ 99 ∷ []) ≡ (97 ∷ []) ∷ (98 ∷ []) ∷ [])
     × (closed (first_lines 4 (97 ∷ 13 ∷ 98 ∷ 13 ∷ 10 ∷ 99 ∷ [])) ≡ 97 ∷ 10 ∷ 98 ∷ 10 ∷ 99 ∷ 10 ∷ [])
-    × (bytesIn (first_lines 4 (97 ∷ 13 ∷ 98 ∷ 13 ∷ 10 ∷ 99 ∷ [])) ≡ 3)
-unfolding closed bytesIn piecesFrom line_of
+    × (bytes_in (first_lines 4 (97 ∷ 13 ∷ 98 ∷ 13 ∷ 10 ∷ 99 ∷ [])) ≡ 3)
+unfolding closed bytes_in pieces_from line_of
 cases = (refl, refl, refl, refl)
 
 pub closed_none : closed [] ≡ []
@@ -33,8 +33,8 @@ unfolding closed
 closed-append [] ls = refl
 closed-append (k ∷ ks) ls = ap (λ t. k ++ (10 ∷ t)) (closed-append ks ls) ∙ sym (append_assoc k (10 ∷ closed ks) (closed ls))
 
-pub closed-length : (ls : List (List ℕ)) → length (closed ls) ≡ bytesIn ls + length ls
-unfolding closed bytesIn
+pub closed-length : (ls : List (List ℕ)) → length (closed ls) ≡ bytes_in ls + length ls
+unfolding closed bytes_in
 closed-length [] = refl
 closed-length (l ∷ ls) = omega (arith, length-append l (10 ∷ closed ls), closed-length ls)
 

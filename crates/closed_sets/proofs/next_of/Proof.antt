@@ -11,9 +11,9 @@ use Rattle.theory.specs.Implications.{Implication}
 use Rattle.attribute_set.specs.Sets.{full, without}
 use Rattle.attribute_set.specs.Lectic.{raise}
 use Rattle.attribute_set.specs.Lectic.Laws.{raise-lt}
-use Rattle.implication.specs.Closure.{inForce, closure}
+use Rattle.implication.specs.Closure.{in_force, closure}
 use Rattle.implication.specs.Until.{CloseUntil}
-use Rattle.next_set.specs.Next.{candidate, nextBelow, next}
+use Rattle.next_set.specs.Next.{candidate, next_below, next}
 use Rattle.next_set.specs.Next.Laws.{next-passed}
 use Rattle.next_set.specs.Next.Tested.{next-taken, next-left}
 use Rattle.closed_sets.proofs.next_of.Statement.{statement}
@@ -21,7 +21,7 @@ use Rattle.closed_sets.proofs.next_of.Tie as tie
 
 abbrev invariant-loop : tie.invariant-loop
 invariant-loop background list count n set j₀ j =
-    let rs = inForce background list count in (j ≤ 64) × (nextBelow rs set j ≡ next rs (min n 64) set)
+    let rs = in_force background list count in (j ≤ 64) × (next_below rs set j ≡ next rs (min n 64) set)
 
 abbrev decreases-loop : tie.decreases-loop
 decreases-loop background list count n set j₀ j = j
@@ -33,7 +33,7 @@ start c = let known = c.before.before in known.before.before.before
 
 -- the implications in force
 abbrev rules : tie.In-loop invariant-loop decreases-loop → List (Implication ℕ)
-rules c = let a = (start c).args in inForce a.background.now a.list.now a.count
+rules c = let a = (start c).args in in_force a.background.now a.list.now a.count
 
 abbrev set : tie.In-loop invariant-loop decreases-loop → ℕ
 set c = (start c).args.set
@@ -55,10 +55,10 @@ cut c = c.before.before
 -- ---- a turn
 
 -- what is left of the search is what is to be returned
-left : (c : tie.In-loop invariant-loop decreases-loop) → nextBelow (rules c) (set c) (suc (at c)) ≡ next (rules c) (min (start c).args.n 64) (set c)
+left : (c : tie.In-loop invariant-loop decreases-loop) → next_below (rules c) (set c) (suc (at c)) ≡ next (rules c) (min (start c).args.n 64) (set c)
 left c =
     let e : suc (at c) ≡ c.before.loop.j = omega (arith, c.loop-test.true) in
-    ap (nextBelow (rules c) (set c)) e ∙ c.before.loop.invariant.1
+    ap (next_below (rules c) (set c)) e ∙ c.before.loop.invariant.1
 
 -- the attributes whose gain gives the candidate up
 stop : (c : tie.After-close-until invariant-loop decreases-loop) → (cut c).difference.result ≡ without (full (at (turn c))) (set (turn c))
@@ -79,7 +79,7 @@ given c =
     (subst (λ s. CloseUntil (closure (rules d) c.before.raised.result) s c.close-until.result) (stop c) c.close-until.ensures)
 
 loop-holds : tie.Need-loop-init invariant-loop decreases-loop
-loop-holds c = (omega (arith, c.smaller.ensures), ap (nextBelow _ _) c.smaller.ensures)
+loop-holds c = (omega (arith, c.smaller.ensures), ap (next_below _ _) c.smaller.ensures)
 
 returns : tie.Need-returns invariant-loop decreases-loop
 returns c =
@@ -104,10 +104,10 @@ loop-again-2 c =
     )
 
 returns-2 : tie.Need-returns-2 invariant-loop decreases-loop
-unfolding nextBelow
+unfolding next_below
 returns-2 c =
     let e : c.before.loop.j ≡ 0 = omega arith in
-    ap (nextBelow _ _) (sym e) ∙ c.before.loop.invariant.1
+    ap (next_below _ _) (sym e) ∙ c.before.loop.invariant.1
 
 pub next-of-spec : {M : Type 1} → statement M
 next-of-spec =

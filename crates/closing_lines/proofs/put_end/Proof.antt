@@ -1,6 +1,6 @@
 -- `END `, then the three numbers.
 use Rattle.text.specs.Page.Laws.{text-on, text-then}
-use Rattle.text.specs.Text.{numberText, space}
+use Rattle.text.specs.Text.{number_text, space}
 use borrow.Author.Rules.{rules}
 use Rattle.closing_lines.proofs.put_end.Statement.{statement}
 use Rattle.closing_lines.proofs.put_end.Tie as tie
@@ -16,8 +16,8 @@ returns c =
     let first = second.before.before.before.before in
     let a = (start first).args in
     text-on _ _ _ first.put-bytes.ensures (
-    text-then _ (numberText a.rules) space _ second.put-number-then.ensures (
-    text-then _ (numberText a.rows) space _ third.put-number-then2.ensures fourth.put-number-then3.ensures))
+    text-then _ (number_text a.rules) space _ second.put-number-then.ensures (
+    text-then _ (number_text a.rows) space _ third.put-number-then2.ensures fourth.put-number-then3.ensures))
 
 pub put-end-spec : {M : Type 1} → statement M
 put-end-spec =

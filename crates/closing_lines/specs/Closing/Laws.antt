@@ -2,11 +2,11 @@
 use Rattle.std.specs.Prelude.{◌≤◌, length}
 use Rattle.std.proofs.Common.{arith, length-append}
 use Rattle.session.specs.declared.Refusal.{Refusal}
-use Rattle.text.specs.Text.{numberText}
+use Rattle.text.specs.Text.{number_text}
 use Rattle.text.specs.Text.Digits.Laws.{number_short}
-use Rattle.closing_lines.specs.Closing.{refusalLine}
+use Rattle.closing_lines.specs.Closing.{refusal_line}
 
-pub refusal-length : (r : Refusal) → length (refusalLine r) ≤ 50
+pub refusal-length : (r : Refusal) → length (refusal_line r) ≤ 50
 refusal-length r =
-    rw (length-append (numberText r.number), length-append (numberText r.place))
+    rw (length-append (number_text r.number), length-append (number_text r.place))
     (omega (arith, number_short r.number, number_short r.place))

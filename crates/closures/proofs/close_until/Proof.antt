@@ -5,7 +5,7 @@ use mathlib.Core.List.{List, ◌++◌}
 use borrow.Author.Rules.{rules}
 use native.Mathlib.Omega.{arith}
 use Rattle.theory.specs.Implications.{Implication}
-use Rattle.implication.specs.Closure.{implicationsOf, inForce, closure}
+use Rattle.implication.specs.Closure.{implications_of, in_force, closure}
 use Rattle.implication.specs.Closure.Laws.{pass_le, closure-whole}
 use Rattle.implication.specs.Until.{PassUntil}
 use Rattle.implication.specs.Until.Laws.{pass-met, pass-both, closure-kept, close-end, close-met}
@@ -14,7 +14,7 @@ use Rattle.closures.proofs.close_until.Tie as tie
 
 abbrev invariant-loop : tie.invariant-loop
 invariant-loop background list count set stop b l s₀ s =
-    (s < 2 ^ 64) × (closure (implicationsOf b background ++ implicationsOf l list) s ≡ closure (inForce background list count) set)
+    (s < 2 ^ 64) × (closure (implications_of b background ++ implications_of l list) s ≡ closure (in_force background list count) set)
 
 abbrev decreases-loop : tie.decreases-loop
 decreases-loop background list count set stop b l s₀ s = 2 ^ 64 - s
@@ -23,7 +23,7 @@ decreases-loop background list count set stop b l s₀ s = 2 ^ 64 - s
 abbrev rules : tie.At-loop invariant-loop decreases-loop → List (Implication ℕ)
 rules c =
     let a = c.before.before.before.before.args in
-    inForce a.background.now a.list.now c.before.smaller.result
+    in_force a.background.now a.list.now c.before.smaller.result
 
 abbrev stop : tie.At-loop invariant-loop decreases-loop → ℕ
 stop c = c.before.before.before.before.args.stop
@@ -37,7 +37,7 @@ loop-holds : tie.Need-loop-init invariant-loop decreases-loop
 loop-holds c =
     let a = c.before.before.before.args in (
       search rules,
-      ap (λ k. closure (inForce a.background.now a.list.now k) a.set) c.smaller.ensures
+      ap (λ k. closure (in_force a.background.now a.list.now k) a.set) c.smaller.ensures
           ∙ sym (closure-whole a.background.now a.list.now a.count a.set),
     )
 

@@ -8,7 +8,7 @@ use lib.ListN.{drop, get_or}
 use Rattle.theory.specs.Implications.{Implication}
 use Rattle.attribute_set.specs.Sets.Laws.{and→sub, sub→and}
 use Rattle.implication.specs.Pairs.Laws.{pairs-at, pairs_end}
-use Rattle.implication.specs.Closure.{implication, implicationsOf, fire}
+use Rattle.implication.specs.Closure.{implication, implications_of, fire}
 use Rattle.implication.specs.Closure.Laws.{fire-taken, fire-left}
 use Rattle.implication.specs.Until.{PassUntil}
 use Rattle.implication.specs.Until.Laws.{pass-met, pass-end, pass-more}
@@ -18,7 +18,7 @@ use Rattle.closures.proofs.pass_until.Tie as tie
 abbrev invariant-loop : tie.invariant-loop
 invariant-loop rules count set stop s₀ i₀ s i =
     (i ≤ count)
-    × ((r : ℕ) → PassUntil (implicationsOf (count - i) (drop (i * 2) rules)) s stop r → PassUntil (implicationsOf count rules) set stop r)
+    × ((r : ℕ) → PassUntil (implications_of (count - i) (drop (i * 2) rules)) s stop r → PassUntil (implications_of count rules) set stop r)
 
 abbrev decreases-loop : tie.decreases-loop
 decreases-loop rules count set stop s₀ i₀ s i = count - i
@@ -34,8 +34,8 @@ here c =
 turn : (c : tie.After-shared-slice-known invariant-loop decreases-loop) (t r : ℕ) → t ≡ fire (here c) c.before.before.loop.s
     → let l = c.before.before.loop in
     let a = c.before.before.before.args in
-    PassUntil (implicationsOf (a.count - (l.i + 1)) (drop ((l.i + 1) * 2) a.rules.now)) t a.stop r
-    → PassUntil (implicationsOf a.count a.rules.now) a.set a.stop r
+    PassUntil (implications_of (a.count - (l.i + 1)) (drop ((l.i + 1) * 2) a.rules.now)) t a.stop r
+    → PassUntil (implications_of a.count a.rules.now) a.set a.stop r
 turn c t r e p =
     let l = c.before.before.loop in
     let a = c.before.before.before.args in

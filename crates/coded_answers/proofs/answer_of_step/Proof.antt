@@ -1,22 +1,22 @@
 -- Each arm writes the code and the two values of its own variant.
 use mathlib.Core.Path.{sym, ap, ◌∙◌}
 use borrow.Author.Rules.{rules}
-use Rattle.session_steps.specs.Answers.{stepAnswer}
+use Rattle.session_steps.specs.Answers.{step_answer}
 use Rattle.answer_words.specs.Codes.{code_of}
 use Rattle.coded_answers.proofs.answer_of_step.Statement.{statement}
 use Rattle.coded_answers.proofs.answer_of_step.Tie as tie
 
 returns : tie.Need-returns
-returns c = c.in_words_lem.ensures ∙ sym (ap (λ a. code_of (stepAnswer a)) c.before.enum_told.given.1)
+returns c = c.in_words_lem.ensures ∙ sym (ap (λ a. code_of (step_answer a)) c.before.enum_told.given.1)
 
 returns-2 : tie.Need-returns-2
-returns-2 c = c.in-words2.ensures ∙ sym (ap (λ a. code_of (stepAnswer a)) c.before.enum-told2.given.1)
+returns-2 c = c.in-words2.ensures ∙ sym (ap (λ a. code_of (step_answer a)) c.before.enum-told2.given.1)
 
 returns-3 : tie.Need-returns-3
-returns-3 c = c.in-words3.ensures ∙ sym (ap (λ a. code_of (stepAnswer a)) c.before.before.answer.given.1)
+returns-3 c = c.in-words3.ensures ∙ sym (ap (λ a. code_of (step_answer a)) c.before.before.answer.given.1)
 
 returns-4 : tie.Need-returns-4
-returns-4 c = c.answer-of-refusal.ensures ∙ sym (ap (λ a. code_of (stepAnswer a)) c.before.before.answer2.given.1)
+returns-4 c = c.answer-of-refusal.ensures ∙ sym (ap (λ a. code_of (step_answer a)) c.before.before.answer2.given.1)
 
 pub answer-of-step-spec : {M : Type 1} → statement M
 answer-of-step-spec =

@@ -1,16 +1,16 @@
 -- Each arm writes the code and the two values of its own variant.
 use mathlib.Core.Path.{sym, ap, ◌∙◌}
 use borrow.Author.Rules.{rules}
-use Rattle.session_test.specs.Answers.{testingAnswer}
+use Rattle.session_test.specs.Answers.{testing_answer}
 use Rattle.answer_words.specs.Codes.{code_of}
 use Rattle.coded_answers.proofs.answer_of_testing.Statement.{statement}
 use Rattle.coded_answers.proofs.answer_of_testing.Tie as tie
 
 returns : tie.Need-returns
-returns c = c.in_words_lem.ensures ∙ sym (ap (λ a. code_of (testingAnswer a)) c.before.enum_told.given.1)
+returns c = c.in_words_lem.ensures ∙ sym (ap (λ a. code_of (testing_answer a)) c.before.enum_told.given.1)
 
 returns-2 : tie.Need-returns-2
-returns-2 c = c.answer-of-refusal.ensures ∙ sym (ap (λ a. code_of (testingAnswer a)) c.before.before.answer.given.1)
+returns-2 c = c.answer-of-refusal.ensures ∙ sym (ap (λ a. code_of (testing_answer a)) c.before.before.answer.given.1)
 
 pub answer-of-testing-spec : {M : Type 1} → statement M
 answer-of-testing-spec =

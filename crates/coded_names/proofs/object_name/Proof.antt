@@ -1,12 +1,12 @@
 -- The answer is that of the place found.
 use mathlib.Core.Path.{ap, ◌∙◌}
-use Rattle.coded_tables.specs.Tables.{codeOfSpan}
+use Rattle.coded_tables.specs.Tables.{code_of_span}
 use borrow.Author.Rules.{rules}
 use Rattle.coded_names.proofs.object_name.Statement.{statement}
 use Rattle.coded_names.proofs.object_name.Tie as tie
 
 returns : tie.Need-returns
-returns c = c.answer-of-span.ensures ∙ ap codeOfSpan c.before.object-span.ensures
+returns c = c.answer-of-span.ensures ∙ ap code_of_span c.before.object-span.ensures
 
 pub object-name-spec : {M : Type 1} → statement M
 object-name-spec = tie.close (tie.spec (λ c κs. search rules) (λ c κs. search rules) returns)

@@ -2,10 +2,10 @@
 use mathlib.Core.Path.{◌≡◌, refl, ap, ◌∙◌, subst}
 use borrow.Author.Rules.{rules}
 use Rattle.machine.specs.Machine.{Opening}
-use Rattle.machine.specs.Calls.{openingFrom}
+use Rattle.machine.specs.Calls.{opening_from}
 use Rattle.session_opening.specs.declared.Opened.{Opened}
-use Rattle.session_opening.specs.Opening.{openingOf}
-use Rattle.answer_words.specs.Codes.{codeOfOpening, isOpened}
+use Rattle.session_opening.specs.Opening.{opening_of}
+use Rattle.answer_words.specs.Codes.{code_of_opening, is_opened}
 use Rattle.coded_opening.specs.Openings.{OpeningLeaves}
 use Rattle.coded_opening.proofs.«open».Statement.{statement}
 use Rattle.coded_opening.proofs.«open».Tie as tie
@@ -16,7 +16,7 @@ start c = c.before.before.before.before
 -- the machine's opening, by what the call gave
 opening : (c : tie.After-open) (x : Opened) → c.«open».result ≡ x
     → let a = (start c).args in
-    openingOf x a.rows.now a.list.now a.background.now ≡ openingFrom a.n a.used a.rows.now a.list.now a.background.now
+    opening_of x a.rows.now a.list.now a.background.now ≡ opening_from a.n a.used a.rows.now a.list.now a.background.now
 opening c x e = rw e at c.«open».ensures
 
 returns : tie.Need-returns
@@ -26,7 +26,7 @@ returns c =
     let a = (start e).args in
     let is = opening e _ d.opened.given.1 in
     let leaves : Opening → Type 0 = OpeningLeaves a.session d.opened.given.0.0 a.rows.now a.list.now a.background.now in
-    record { opens = record { answer = c.in_words_lem.ensures ∙ ap codeOfOpening is; record-left = subst leaves is refl }; change = ap isOpened is }
+    record { opens = record { answer = c.in_words_lem.ensures ∙ ap code_of_opening is; record_left = subst leaves is refl }; change = ap is_opened is }
 
 returns-2 : tie.Need-returns-2
 returns-2 c =
@@ -35,7 +35,7 @@ returns-2 c =
     let a = (start e).args in
     let is = opening e _ d.opened2.given.1 in
     let leaves : Opening → Type 0 = OpeningLeaves a.session a.session a.rows.now a.list.now a.background.now in
-    record { opens = record { answer = c.answer-of-refusal.ensures ∙ ap codeOfOpening is; record-left = subst leaves is refl }; change = ap isOpened is }
+    record { opens = record { answer = c.answer-of-refusal.ensures ∙ ap code_of_opening is; record_left = subst leaves is refl }; change = ap is_opened is }
 
 pub open_spec : {M : Type 1} → statement M
 open_spec =

@@ -4,18 +4,18 @@ use mathlib.Core.List.{List}
 use Prim.Native.Nat.{ℕ}
 use Rattle.answer_words.specs.declared.Answer.{Answer as Coded}
 use Rattle.table_layout.specs.declared.Opened.{Opened}
-use Rattle.mark_reading.specs.Marks.{rowWords}
-use Rattle.coded_tables.specs.Tables.{codeOfOpened, MarksRead}
+use Rattle.mark_reading.specs.Marks.{words_of_rows}
+use Rattle.coded_tables.specs.Tables.{code_of_opened, MarksRead}
 use borrow.Author.Rules.{rules}
 use Rattle.coded_tables.proofs.read_marks.Statement.{statement}
 use Rattle.coded_tables.proofs.read_marks.Tie as tie
 
 -- what is said of the variant that was found
-said : (o r v : Opened) (file words words' : List ℕ) (x : Coded) → r ≡ o → r ≡ v → x ≡ codeOfOpened v → words' ≡ rowWords r file words
+said : (o r v : Opened) (file words words' : List ℕ) (x : Coded) → r ≡ o → r ≡ v → x ≡ code_of_opened v → words' ≡ words_of_rows r file words
     → MarksRead o file words x words'
 said o r v file words words' x e f g h = record {
-  answer = g ∙ ap codeOfOpened (sym f ∙ e);
-  written = h ∙ ap (λ y. rowWords y file words) e;
+  answer = g ∙ ap code_of_opened (sym f ∙ e);
+  written = h ∙ ap (λ y. words_of_rows y file words) e;
 }
 
 returns : tie.Need-returns

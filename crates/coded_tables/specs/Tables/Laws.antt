@@ -9,18 +9,18 @@ use Rattle.table_layout.specs.declared.Layout.{Layout}
 use Rattle.table_layout.specs.declared.Opened.{Opened}
 use Rattle.table_layout.specs.declared.Opened.TheVariants.{Found, Refused}
 use Rattle.name_spans.specs.declared.Span.{Span}
-use Rattle.coded_tables.specs.Tables.{layoutAfter, isFound, OpensTable, FindsTable, codeOfSpan}
+use Rattle.coded_tables.specs.Tables.{layout_after, is_found, OpensTable, FindsTable, code_of_span}
 
 module _ (s : Span) where
-  pub no_name : s.size ≡ 0 → coded 3 0 0 ≡ codeOfSpan s
-  no_name e = rw (codeOfSpan, eq-eqb s.size 0 e)
+  pub no_name : s.size ≡ 0 → coded 3 0 0 ≡ code_of_span s
+  no_name e = rw (code_of_span, eq-eqb s.size 0 e)
 
-  pub name-found : (s.size ≡ 0 → ⊥) → coded 103 s.at s.size ≡ codeOfSpan s
-  name-found h = rw (codeOfSpan, ne_eqb s.size 0 h)
+  pub name-found : (s.size ≡ 0 → ⊥) → coded 103 s.at s.size ≡ code_of_span s
+  name-found h = rw (code_of_span, ne_eqb s.size 0 h)
 
 -- ---- the layout after an opening
 
-left_alone : (o : Opened) (before : Layout) → isFound o ≡ false → before ≡ layoutAfter o before
+left_alone : (o : Opened) (before : Layout) → is_found o ≡ false → before ≡ layout_after o before
 left_alone (Found l) before e = absurd (true≢false e)
 left_alone (Refused r) before e = refl
 

@@ -1,15 +1,15 @@
 -- Each arm is that of the definition.
 use mathlib.Core.Path.{sym, ap, ◌∙◌}
 use borrow.Author.Rules.{rules}
-use Rattle.coded_writing.specs.Writing.{codeOfWritten}
+use Rattle.coded_writing.specs.Writing.{code_of_written}
 use Rattle.coded_writing.proofs.answer_of.Statement.{statement}
 use Rattle.coded_writing.proofs.answer_of.Tie as tie
 
 returns : tie.Need-returns
-returns c = c.in_words_lem.ensures ∙ sym (ap codeOfWritten c.before.before.written.given.1)
+returns c = c.in_words_lem.ensures ∙ sym (ap code_of_written c.before.before.written.given.1)
 
 returns-2 : tie.Need-returns-2
-returns-2 c = c.answer-of-refusal.ensures ∙ sym (ap codeOfWritten c.before.before.written2.given.1)
+returns-2 c = c.answer-of-refusal.ensures ∙ sym (ap code_of_written c.before.before.written2.given.1)
 
 pub answer-of-spec : {M : Type 1} → statement M
 answer-of-spec =

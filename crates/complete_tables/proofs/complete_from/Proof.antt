@@ -7,7 +7,7 @@ use lib.ListN.{take, drop, replicate}
 use borrow.Author.Rules.{rules}
 use borrow.Author.Tests.{not-true, not-false}
 use Rattle.table_lines.specs.Lines.{bytes_at}
-use Rattle.table_bytes.specs.Bytes.{isKnown}
+use Rattle.table_bytes.specs.Bytes.{is_known}
 use Rattle.line_bytes.specs.Everywhere.{everywhere}
 use Rattle.table_kinds.specs.declared.Kind.TheVariants.{Marks}
 use Rattle.table_layout.specs.declared.Opened.TheVariants.{Refused}
@@ -15,7 +15,7 @@ use Rattle.line_walk.specs.Walk.{walk}
 use Rattle.table_walk.specs.Walk.{Passes}
 use Rattle.table_layout.specs.Layout.Passed.{table-marks}
 use Rattle.table_walk.specs.Walk.Passed.{NextLine, next-line}
-use Rattle.complete_tables.specs.Complete.{completeFrom}
+use Rattle.complete_tables.specs.Complete.{complete_from}
 use Rattle.complete_tables.specs.Complete.Laws.{complete-on, complete-stop}
 use Rattle.complete_tables.proofs.complete_from.Statement.{statement}
 use Rattle.complete_tables.proofs.complete_from.Tie as tie
@@ -24,7 +24,7 @@ abbrev invariant-loop : tie.invariant-loop
 invariant-loop file layout count n at₀ i₀ at i =
     (i ≤ count)
     × Passes (walk (replicate (count - i) (Marks n)) file at)
-    × (completeFrom (count - i) layout file at ≡ completeFrom count layout file layout.marks)
+    × (complete_from (count - i) layout file at ≡ complete_from count layout file layout.marks)
 
 abbrev decreases-loop : tie.decreases-loop
 decreases-loop file layout count n at₀ i₀ at i = count - i
@@ -45,14 +45,14 @@ ahead c = next-line _ _ _ _ _ c.loop-test.true c.before.loop.invariant.1
 -- what was found of its bytes
 known : (c : tie.After-all-pass invariant-loop decreases-loop)
     → let t = turn c in
-    c.all_pass.result ≡ everywhere isKnown (bytes_at (start t).args.file.now t.before.loop.at)
+    c.all_pass.result ≡ everywhere is_known (bytes_at (start t).args.file.now t.before.loop.at)
 known c =
     let t = turn c in
     let at = t.before.loop.at in
     let a = (start t).args in
     let n = a.layout.attributes in
     let e : at + n - at ≡ n = omega arith in
-    c.all_pass.ensures ∙ ap (λ k. everywhere isKnown (take k (drop at a.file.now))) e ∙ ap (everywhere isKnown) (ahead t).bytes
+    c.all_pass.ensures ∙ ap (λ k. everywhere is_known (take k (drop at a.file.now))) e ∙ ap (everywhere is_known) (ahead t).bytes
 
 loop-holds : tie.Need-loop-init invariant-loop decreases-loop
 loop-holds c = (omega arith, rw sub-zero (table-marks _ _ c.before.requires).2, rw sub-zero)
@@ -72,7 +72,7 @@ returns c =
     let e : suc n ≡ a.layout.objects - l.i = omega arith in
     ap Refused c.refuse.ensures
     ∙ sym (complete-stop n a.layout a.file.now l.at (sym (known p) ∙ not-true _ c.before.if1.true))
-    ∙ ap (λ m. completeFrom m a.layout a.file.now l.at) e ∙ l.inv.2
+    ∙ ap (λ m. complete_from m a.layout a.file.now l.at) e ∙ l.inv.2
 
 add-i : tie.Need-overflow-add-i invariant-loop decreases-loop
 add-i c = omega arith
@@ -91,16 +91,16 @@ loop-again c =
       omega arith,
       (ahead (turn p)).passes,
       sym (complete-on n a.layout a.file.now l.at (sym (known p) ∙ not-false _ c.before.if1.false))
-          ∙ ap (λ m. completeFrom m a.layout a.file.now l.at) e ∙ l.inv.2,
+          ∙ ap (λ m. complete_from m a.layout a.file.now l.at) e ∙ l.inv.2,
     )
 
 returns-2 : tie.Need-returns-2 invariant-loop decreases-loop
-unfolding completeFrom
+unfolding complete_from
 returns-2 c =
     let l = c.before.loop in
     let a = c.before.before.before.args in
     let e : 0 ≡ a.layout.objects - l.i = omega arith in
-    ap (λ m. completeFrom m a.layout a.file.now l.at) e ∙ l.invariant.2
+    ap (λ m. complete_from m a.layout a.file.now l.at) e ∙ l.invariant.2
 
 pub complete-from-spec : {M : Type 1} → statement M
 complete-from-spec =

@@ -1,7 +1,7 @@
 -- What `open` gives decides: the marks of a table begin inside the file and are read, and a refusal stays.
 use mathlib.Core.Path.{sym, ap, ◌∙◌}
 use borrow.Author.Rules.{rules}
-use Rattle.complete_tables.specs.Complete.{completeOf}
+use Rattle.complete_tables.specs.Complete.{complete_of}
 use Rattle.complete_tables.proofs.open_complete.Statement.{statement}
 use Rattle.complete_tables.proofs.open_complete.Tie as tie
 
@@ -15,13 +15,13 @@ returns c =
     let d = c.before.before in
     let o = d.before.before in
     c.complete-from.ensures
-    ∙ ap (completeOf o.before.before.args.file.now) (sym d.opened.given.1 ∙ o.«open».ensures)
+    ∙ ap (complete_of o.before.before.args.file.now) (sym d.opened.given.1 ∙ o.«open».ensures)
 
 returns-2 : tie.Need-returns-2
 returns-2 c =
     let d = c.before in
     let o = d.before.before in
-    ap (completeOf o.before.before.args.file.now) (sym d.opened2.given.1 ∙ o.«open».ensures)
+    ap (complete_of o.before.before.args.file.now) (sym d.opened2.given.1 ∙ o.«open».ensures)
 
 pub open-complete-spec : {M : Type 1} → statement M
 open-complete-spec =

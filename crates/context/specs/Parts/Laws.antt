@@ -13,10 +13,10 @@ use Rattle.attribute_set.specs.Lectic.Laws.{single-sub}
 use Rattle.implication.specs.Closure.{closure}
 use Rattle.implication.specs.Closure.Laws.{closure-least}
 use Rattle.implication.specs.Until.{CloseUntil}
-use Rattle.context.specs.Objects.{Object, wordAttributes, has, lacks, refutes, contradicts}
+use Rattle.context.specs.Objects.{Object, word_attributes, has, lacks, refutes, contradicts}
 use Rattle.context.specs.Objects.Laws.{lacks-marked, meets-lacks, unmarked-lacks, spared-set, consistent-apart, refutes-taken, refutes-left}
 use Rattle.context.specs.Implied.Theorem.{implied}
-use Rattle.context.specs.Parts.{spared, refutedPart}
+use Rattle.context.specs.Parts.{spared, refuted_part}
 
 -- ---- members, digit by digit
 
@@ -71,54 +71,54 @@ told-turn k x a s l inside' lacked apart = sub-antisym
 
 module _ (rs : List (Implication ℕ)) (o : Object) where
   -- the closure with x meets the no marks, and nothing is spared; or it does not, and it is
-  pub spared-met : (x : ℕ) → meets (closure rs (bit_or o.yes-marks x)) o.no-marks ≡ true → spared rs o x ≡ 0
+  pub spared-met : (x : ℕ) → meets (closure rs (bit_or o.yes_marks x)) o.no_marks ≡ true → spared rs o x ≡ 0
   unfolding spared
   spared-met x e = rw (spared, e)
 
-  pub spared-whole : (x : ℕ) → meets (closure rs (bit_or o.yes-marks x)) o.no-marks ≡ false → spared rs o x ≡ closure rs (bit_or o.yes-marks x)
+  pub spared-whole : (x : ℕ) → meets (closure rs (bit_or o.yes_marks x)) o.no_marks ≡ false → spared rs o x ≡ closure rs (bit_or o.yes_marks x)
   unfolding spared
   spared-whole x e = rw (spared, e)
 
   -- a closure that was given up where it met the no marks tells which
-  pub until-met : (x : ℕ) {f : ℕ} → CloseUntil (closure rs (bit_or o.yes-marks x)) o.no-marks f → (bit_and f o.no-marks ≡ 0 → ⊥) → 0 ≡ spared rs o x
+  pub until-met : (x : ℕ) {f : ℕ} → CloseUntil (closure rs (bit_or o.yes_marks x)) o.no_marks f → (bit_and f o.no_marks ≡ 0 → ⊥) → 0 ≡ spared rs o x
   until-met x {f} c n =
-      let m = some-member (bit_and f o.no-marks) n in
-      sym (spared-met x (some-meets _ _ m.0 (c.least.at m.0 ((and_left f o.no-marks).at m.0 m.1)) ((and_right f o.no-marks).at m.0 m.1)))
+      let m = some-member (bit_and f o.no_marks) n in
+      sym (spared-met x (some-meets _ _ m.0 (c.least.at m.0 ((and_left f o.no_marks).at m.0 m.1)) ((and_right f o.no_marks).at m.0 m.1)))
 
-  pub until-whole : (x : ℕ) {f : ℕ} → CloseUntil (closure rs (bit_or o.yes-marks x)) o.no-marks f → bit_and f o.no-marks ≡ 0 → f ≡ spared rs o x
+  pub until-whole : (x : ℕ) {f : ℕ} → CloseUntil (closure rs (bit_or o.yes_marks x)) o.no_marks f → bit_and f o.no_marks ≡ 0 → f ≡ spared rs o x
   until-whole x {f} c e =
       let w = c.whole e in
-      w ∙ sym (spared-whole x (apart-meets (and-apart _ _ (ap (λ (s : ℕ). bit_and s o.no-marks) (sym w) ∙ e))))
+      w ∙ sym (spared-whole x (apart-meets (and-apart _ _ (ap (λ (s : ℕ). bit_and s o.no_marks) (sym w) ∙ e))))
 
   -- what is spared is not lacked; an attribute that is not spared with itself is
   spared-apart : (x : ℕ) → Apart (spared rs o x) (lacks rs o)
-  spared-apart x = go (meets (closure rs (bit_or o.yes-marks x)) o.no-marks) refl
+  spared-apart x = go (meets (closure rs (bit_or o.yes_marks x)) o.no_marks) refl
     where
-      go : (b : Bool) → meets (closure rs (bit_or o.yes-marks x)) o.no-marks ≡ b → Apart (spared rs o x) (lacks rs o)
+      go : (b : Bool) → meets (closure rs (bit_or o.yes_marks x)) o.no_marks ≡ b → Apart (spared rs o x) (lacks rs o)
       go true e = rw (spared-met x e) (record { at = λ i a m. omega (arith, digit-none i, a) })
       go false e = rw (spared-whole x e) (spared-set rs o x (meets-apart _ _ e))
 
-  not_spared : (i : ℕ) → i < wordAttributes → Sub (without (2 ^ i) (spared rs o (2 ^ i))) (lacks rs o)
-  not_spared i l = go (meets (closure rs (bit_or o.yes-marks (2 ^ i))) o.no-marks) refl
+  not_spared : (i : ℕ) → i < word_attributes → Sub (without (2 ^ i) (spared rs o (2 ^ i))) (lacks rs o)
+  not_spared i l = go (meets (closure rs (bit_or o.yes_marks (2 ^ i))) o.no_marks) refl
     where
-      go : (b : Bool) → meets (closure rs (bit_or o.yes-marks (2 ^ i))) o.no-marks ≡ b → Sub (without (2 ^ i) (spared rs o (2 ^ i))) (lacks rs o)
+      go : (b : Bool) → meets (closure rs (bit_or o.yes_marks (2 ^ i))) o.no_marks ≡ b → Sub (without (2 ^ i) (spared rs o (2 ^ i))) (lacks rs o)
       go true e = record { at = λ j h. (single-sub i (lacks rs o) (meets-lacks rs o i l e)).at j (omega (arith, h, digit-without (2 ^ i) (spared rs o (2 ^ i)) j, digit_lt (2 ^ i) j)) }
       go false e = record {
         at = λ j h.
-            let s = (closure-least rs (bit_or o.yes-marks (2 ^ i))).above.at j ((or_right o.yes-marks (2 ^ i)).at j
+            let s = (closure-least rs (bit_or o.yes_marks (2 ^ i))).above.at j ((or_right o.yes_marks (2 ^ i)).at j
             (omega (arith, h, digit-without (2 ^ i) (spared rs o (2 ^ i)) j, digit_lt (2 ^ i) j))) in
             absurd (omega (arith, h, digit-without (2 ^ i) (spared rs o (2 ^ i)) j, digit_lt (2 ^ i) j, s, ap (λ (w : ℕ). digit w j) (spared-whole (2 ^ i) e)));
       }
 
   -- an object that does not contradict lacks of x what it marks no, and of what it neither marks no nor has what is still to be told
-  pub lacked-start : (x : ℕ) → contradicts rs o ≡ false → o.no-marks < 2 ^ wordAttributes
-      → bit_or (bit_and x o.no-marks) (bit_and (without (without x o.no-marks) (has rs o)) (lacks rs o)) ≡ bit_and x (lacks rs o)
+  pub lacked-start : (x : ℕ) → contradicts rs o ≡ false → o.no_marks < 2 ^ word_attributes
+      → bit_or (bit_and x o.no_marks) (bit_and (without (without x o.no_marks) (has rs o)) (lacks rs o)) ≡ bit_and x (lacks rs o)
   lacked-start x e w =
-      told-start x o.no-marks (has rs o) (lacks rs o) (record { at = λ i h. lacks-marked rs o i (member-lt o.no-marks i wordAttributes w h) h })
+      told-start x o.no_marks (has rs o) (lacks rs o) (record { at = λ i h. lacks-marked rs o i (member-lt o.no_marks i word_attributes w h) h })
       (apart-sub (closure-least rs (has rs o)).above (sub_refl _) (consistent-apart rs o e (sub_refl (has rs o))))
 
   -- attribute i of the open set x is told, and what is spared with it
-  pub lacked-turn : (k x i : ℕ) → i < wordAttributes → In i x
+  pub lacked-turn : (k x i : ℕ) → i < word_attributes → In i x
       → let s = spared rs o (2 ^ i) in bit_or (bit_or k (without (2 ^ i) s)) (bit_and (without x (bit_or (2 ^ i) s)) (lacks rs o)) ≡ bit_or k (bit_and x (lacks rs o))
   lacked-turn k x i l h = told-turn k x (2 ^ i) (spared rs o (2 ^ i)) (lacks rs o) (single-sub i x h) (not_spared i l) (spared-apart (2 ^ i))
 
@@ -132,30 +132,30 @@ without-less x i s h =
 -- ---- what is refuted
 
 module _ (rs : List (Implication ℕ)) (o : Object) (r : Implication ℕ) where
-  pub part_left : (Sub r.premise (has rs o) → ⊥) → refutedPart rs o r ≡ 0
-  unfolding refutedPart
-  part_left n = rw (refutedPart, not-inside n)
+  pub part_left : (Sub r.premise (has rs o) → ⊥) → refuted_part rs o r ≡ 0
+  unfolding refuted_part
+  part_left n = rw (refuted_part, not-inside n)
 
-  pub part-taken : Sub r.premise (has rs o) → refutedPart rs o r ≡ bit_and r.conclusion (lacks rs o)
-  unfolding refutedPart
-  part-taken h = rw (refutedPart, sub-inside h)
+  pub part-taken : Sub r.premise (has rs o) → refuted_part rs o r ≡ bit_and r.conclusion (lacks rs o)
+  unfolding refuted_part
+  part-taken h = rw (refuted_part, sub-inside h)
 
   -- one without no marks refutes nothing
-  pub part-unmarked : o.no-marks ≡ 0 → refutedPart rs o r ≡ 0
+  pub part-unmarked : o.no_marks ≡ 0 → refuted_part rs o r ≡ 0
   part-unmarked e = go (sub_dec r.premise (has rs o))
     where
-      go : Dec (Sub r.premise (has rs o)) → refutedPart rs o r ≡ 0
+      go : Dec (Sub r.premise (has rs o)) → refuted_part rs o r ≡ 0
       go (yes h) = part-taken h ∙ ap (bit_and r.conclusion) (unmarked-lacks rs o e) ∙ and_zero_r r.conclusion
       go (no n) = part_left n
 
   -- one that contradicts refutes all of a conclusion in a word
-  pub part-contradicting : contradicts rs o ≡ true → r.conclusion < 2 ^ wordAttributes → bit_and r.conclusion (lacks rs o) ≡ r.conclusion
-  part-contradicting e w = ap (bit_and r.conclusion) (implied.all-lacked rs o e) ∙ sub→and (lt-sub-full r.conclusion wordAttributes w)
+  pub part-contradicting : contradicts rs o ≡ true → r.conclusion < 2 ^ word_attributes → bit_and r.conclusion (lacks rs o) ≡ r.conclusion
+  part-contradicting e w = ap (bit_and r.conclusion) (implied.all_lacked rs o e) ∙ sub→and (lt-sub-full r.conclusion word_attributes w)
 
-  pub part-refutes : refutes rs o r ≡ not (eqb (refutedPart rs o r) 0)
+  pub part-refutes : refutes rs o r ≡ not (eqb (refuted_part rs o r) 0)
   unfolding meets
   part-refutes = go (sub_dec r.premise (has rs o))
     where
-      go : Dec (Sub r.premise (has rs o)) → refutes rs o r ≡ not (eqb (refutedPart rs o r) 0)
+      go : Dec (Sub r.premise (has rs o)) → refutes rs o r ≡ not (eqb (refuted_part rs o r) 0)
       go (yes h) = refutes-taken rs o r h ∙ ap (λ x. not (eqb x 0)) (sym (part-taken h))
       go (no n) = refutes-left rs o r n ∙ ap (λ x. not (eqb x 0)) (sym (part_left n))

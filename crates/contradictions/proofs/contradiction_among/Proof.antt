@@ -7,22 +7,22 @@ use native.Mathlib.Omega.{arith}
 use native.Mathlib.Nat.{sub-zero}
 use lib.ListN.{drop, get_or}
 use borrow.Author.Rules.{rules}
-use Rattle.implication.specs.Closure.{implication, inForce}
+use Rattle.implication.specs.Closure.{implication, in_force}
 use Rattle.context.specs.Places.{lowest}
-use Rattle.context.specs.Objects.{Object, object, objectsOf, contradicts}
+use Rattle.context.specs.Objects.{Object, object, objects_of, contradicts}
 use Rattle.context.specs.Places.Search.{pair_found, pair-passed, pair-none}
 use Rattle.contradictions.proofs.contradiction_among.Statement.{statement}
 use Rattle.contradictions.proofs.contradiction_among.Tie as tie
 
 -- the test of a row
 abbrev test : List ℕ → List ℕ → ℕ → ℕ → ℕ → Object → Bool
-test background list rules premise conclusion = contradicts (inForce background list rules ++ (implication premise conclusion ∷ []))
+test background list rules premise conclusion = contradicts (in_force background list rules ++ (implication premise conclusion ∷ []))
 
 abbrev invariant-loop : tie.invariant-loop
 invariant-loop rows count list rules background premise conclusion i₀ i =
     (i ≤ count)
-    × (i + lowest (test background list rules premise conclusion) (objectsOf (count - i) (drop (i * 2) rows))
-    ≡ lowest (test background list rules premise conclusion) (objectsOf count rows))
+    × (i + lowest (test background list rules premise conclusion) (objects_of (count - i) (drop (i * 2) rows))
+    ≡ lowest (test background list rules premise conclusion) (objects_of count rows))
 
 abbrev decreases-loop : tie.decreases-loop
 decreases-loop rows count list rules background premise conclusion i₀ i = count - i

@@ -17,16 +17,16 @@ use Rattle.implication.specs.Closure.{closure}
 use Rattle.implication.specs.Closure.Laws.{closure-least, closure-inside}
 use Rattle.context.specs.Places.{lowest, anywhere}
 use Rattle.context.specs.Places.Laws.{anywhere-false, anywhere-true}
-use Rattle.context.specs.Objects.{Object, refutesWritten, contradicts}
-use Rattle.context.specs.Filling.{joined, objectAt, filledAt}
+use Rattle.context.specs.Objects.{Object, refutes_written, contradicts}
+use Rattle.context.specs.Filling.{joined, object_at, filled_at}
 use Rattle.context.specs.Filling.Laws.{all-filled, object-member, filled_in}
 use Rattle.reach.specs.Reach.Laws.{reach-inside}
 use Rattle.context.specs.Tables.{Complete, Table, AgreesObject, AgreesImplication, completed}
 use Rattle.context.specs.Tables.Laws.{completed-complete, completes, completed-agrees, no-contradiction}
 use Rattle.session.specs.declared.Refusal.{Refusal}
-use Rattle.machine.specs.Checks.{State, Check, check, firstFailing, sessionChecks, yesChecks, testChecks, filingChecks, fillChecks, force, reachOf, question, withQuestion, strangeObject}
+use Rattle.machine.specs.Checks.{State, Check, check, first_failing, session_checks, yes_checks, test_checks, filing_checks, fill_checks, force, reach_of, question, with_question, strange_object}
 use Rattle.machine.specs.Checks.Laws.{Passed, passed, none-failing, passed-append, append-passed, failing-append, failing-here, failing-later, or-false, InM, joined_in, familiar-object, Valid, valid}
-use Rattle.machine.specs.Machine.{Call, accept, reject, file, fill, taken, refused, Turn, afterFill, performed, checksOf}
+use Rattle.machine.specs.Machine.{Call, accept, reject, file, fill, taken, refused, Turn, after_fill, performed, checks_of}
 use Rattle.machine.specs.Machine.Laws.{perform-refused, perform-accepted}
 use Rattle.demands.specs.InTurn.Theorem.{test-passed}
 use Rattle.demands.specs.Replies.{agreed, offered}
@@ -44,14 +44,14 @@ other-number a b p q e =
     ap (λ (r : Refusal). r.number) f
 
 module _ (s : State) (c : Call) (before : List Check) (b : Bool) (p : ℕ) (behind : List Check) (others : All (λ x. x.number ≡ 11 → ⊥) behind)
-    (is : checksOf s c ≡ before ++ (check 11 b p ∷ behind)) (ok : Passed before) (takes : (performed s c).answer ≡ taken) where
-  verdict : firstFailing (checksOf s c) ≡ firstFailing (check 11 b p ∷ behind)
-  verdict = ap firstFailing is ∙ failing-append before _ ok
+    (is : checks_of s c ≡ before ++ (check 11 b p ∷ behind)) (ok : Passed before) (takes : (performed s c).answer ≡ taken) where
+  verdict : first_failing (checks_of s c) ≡ first_failing (check 11 b p ∷ behind)
+  verdict = ap first_failing is ∙ failing-append before _ ok
 
   refused-fails : Refused11 s c → b ≡ true
-  refused-fails (k, e) = go b refl (firstFailing behind) refl
+  refused-fails (k, e) = go b refl (first_failing behind) refl
     where
-      go : (x : Bool) → b ≡ x → (v : Option Refusal) → firstFailing behind ≡ v → b ≡ true
+      go : (x : Bool) → b ≡ x → (v : Option Refusal) → first_failing behind ≡ v → b ≡ true
       go true f v g = f
       go false f (some r) g =
           let v = verdict ∙ failing-later (check 11 b p) _ f ∙ g in
@@ -71,7 +71,7 @@ module _ (s : State) (c : Call) (before : List Check) (b : Bool) (p : ℕ) (behi
 
 -- where no row contradicts the implications, the completed closures of the rows agree with both
 complete : ℕ → List (Implication ℕ) → Object → Object
-complete n rs o = completed n (closure rs o.yes-marks)
+complete n rs o = completed n (closure rs o.yes_marks)
 
 closures : ℕ → List (Implication ℕ) → List Object → List Object
 closures n rs rows = map (complete n rs) rows
@@ -82,17 +82,17 @@ module _ (n : ℕ) (rs : List (Implication ℕ)) (rows : List Object) (over : Al
   unfolding closures complete
   closures-table c m =
       let t = Memᴰ.of_map (complete n rs) rows m in
-      subst (λ x. Complete n x) t.2 (completed-complete n (closure-inside rs n over (inM t.0 t.1).yes-marks))
+      subst (λ x. Complete n x) t.2 (completed-complete n (closure-inside rs n over (inM t.0 t.1).yes_marks))
 
   closures-rows : All (AgreesObject (closures n rs rows)) rows
   unfolding closures complete
-  closures-rows o m = record { by = complete n rs o; member = Memᴰ.map (complete n rs) m; extends = completes n rs o (inM o m).no-marks (ok o m) }
+  closures-rows o m = record { by = complete n rs o; member = Memᴰ.map (complete n rs) m; extends = completes n rs o (inM o m).no_marks (ok o m) }
 
   closures-rules : All (AgreesImplication (closures n rs rows)) rs
   unfolding closures complete
   closures-rules r m c k =
       let t = Memᴰ.of_map (complete n rs) rows k in
-      subst (λ x. refutesWritten x r ≡ false) t.2 (completed-agrees n rs (closure-least rs t.0.yes-marks).member r m)
+      subst (λ x. refutes_written x r ≡ false) t.2 (completed-agrees n rs (closure-least rs t.0.yes_marks).member r m)
 
 -- behind 11 stands nothing, or 12
 only-12 : (full' : Bool) → All (λ x. x.number ≡ 11 → ⊥) (check 12 full' 0 ∷ [])
@@ -104,57 +104,57 @@ decide : (b : Bool) → ((b ≡ false) → ⊥) → b ≡ true
 decide true h = refl
 decide false h = absurd (h refl)
 
-yes-call : (s : State) → YesUpTo11 s → Refused11 s accept ↔ Contradictory s (agreed (question s))
-unfolding yesChecks checksOf performed
-yes-call s up =
-    let p = passed (sessionChecks s [] ++ take 1 (yesChecks s)) up in
-    let v = valid s [] (passed-append (sessionChecks s []) (take 1 (yesChecks s)) up).0 in
-    let ask = anywhere (contradicts (withQuestion s)) s.rows in
-    let i = refused-iff s accept (sessionChecks s [] ++ take 1 (yesChecks s)) ask (lowest (contradicts (withQuestion s)) s.rows)
-    _ (only-12 (leb (s.lent.list / 2) (length s.list))) (sym (append_assoc (sessionChecks s []) (take 1 (yesChecks s)) _)) p refl in
-    (λ e. against v (i.0 e), λ e. i.1 (decide ask (λ f. e (closures s.n (withQuestion s) s.rows) (agrees v f))))
+yes_call : (s : State) → YesUpTo11 s → Refused11 s accept ↔ Contradictory s (agreed (question s))
+unfolding yes_checks checks_of performed
+yes_call s up =
+    let p = passed (session_checks s [] ++ take 1 (yes_checks s)) up in
+    let v = valid s [] (passed-append (session_checks s []) (take 1 (yes_checks s)) up).0 in
+    let ask = anywhere (contradicts (with_question s)) s.rows in
+    let i = refused-iff s accept (session_checks s [] ++ take 1 (yes_checks s)) ask (lowest (contradicts (with_question s)) s.rows)
+    _ (only-12 (leb (s.lent.list / 2) (length s.list))) (sym (append_assoc (session_checks s []) (take 1 (yes_checks s)) _)) p refl in
+    (λ e. against v (i.0 e), λ e. i.1 (decide ask (λ f. e (closures s.n (with_question s) s.rows) (agrees v f))))
   where
     question-over : Valid s → Over words (full s.n) (question s)
     question-over v = record {
       premise = v.current;
-      conclusion = sub_trans (without_sub (reachOf s) s.current) (reach-inside (force s) s.n s.rows s.current);
+      conclusion = sub_trans (without_sub (reach_of s) s.current) (reach-inside (force s) s.n s.rows s.current);
     }
 
-    with-question : force s ++ (question s ∷ []) ≡ withQuestion s
+    with-question : force s ++ (question s ∷ []) ≡ with_question s
     with-question = append_assoc s.background s.list (question s ∷ [])
 
-    over : Valid s → All (Over words (full s.n)) (withQuestion s)
+    over : Valid s → All (Over words (full s.n)) (with_question s)
     over v = subst (λ l. All (Over words (full s.n)) l) with-question (all_snoc (force s) (question s) v.over (question-over v))
 
-    against : Valid s → anywhere (contradicts (withQuestion s)) s.rows ≡ true → Contradictory s (agreed (question s))
+    against : Valid s → anywhere (contradicts (with_question s)) s.rows ≡ true → Contradictory s (agreed (question s))
     against v e t a =
         let x = anywhere-true _ s.rows e in
         let all = subst (λ l. All (AgreesImplication t) l) with-question (all_snoc (force s) (question s) a.all.rules a.reply) in
-        true≢false (sym x.2 ∙ no-contradiction s.n t (withQuestion s) x.0 a.all.complete (over v) all (a.all.rows x.0 x.1))
+        true≢false (sym x.2 ∙ no-contradiction s.n t (with_question s) x.0 a.all.complete (over v) all (a.all.rows x.0 x.1))
 
-    agrees : Valid s → anywhere (contradicts (withQuestion s)) s.rows ≡ false → Agrees s (agreed (question s)) (closures s.n (withQuestion s) s.rows)
+    agrees : Valid s → anywhere (contradicts (with_question s)) s.rows ≡ false → Agrees s (agreed (question s)) (closures s.n (with_question s) s.rows)
     agrees v f =
         let ok = anywhere-false _ s.rows f in
-        let rules = subst (λ l. All (AgreesImplication (closures s.n (withQuestion s) s.rows)) l) (sym with-question)
-        (closures-rules s.n (withQuestion s) s.rows (over v) v.rows ok) in
+        let rules = subst (λ l. All (AgreesImplication (closures s.n (with_question s) s.rows)) l) (sym with-question)
+        (closures-rules s.n (with_question s) s.rows (over v) v.rows ok) in
         record {
           all = record {
-            complete = closures-table s.n (withQuestion s) s.rows (over v) v.rows ok;
-            rows = closures-rows s.n (withQuestion s) s.rows (over v) v.rows ok;
+            complete = closures-table s.n (with_question s) s.rows (over v) v.rows ok;
+            rows = closures-rows s.n (with_question s) s.rows (over v) v.rows ok;
             rules = all_take (force s) (question s ∷ []) rules;
           };
           reply = rules (question s) (Memᴰ.append_right (force s) (Memᴰ.head refl));
         }
 
 filing : (s : State) (o : Object) → FilingUpTo11 s o → Refused11 s (file o) ↔ Contradictory s (offered o)
-unfolding filingChecks checksOf performed
+unfolding filing_checks checks_of performed
 filing s o up =
-    let p = passed (sessionChecks s [] ++ take 1 (filingChecks s o)) up in
-    let q = passed-append (sessionChecks s []) (take 1 (filingChecks s o)) up in
+    let p = passed (session_checks s [] ++ take 1 (filing_checks s o)) up in
+    let q = passed-append (session_checks s []) (take 1 (filing_checks s o)) up in
     let v = valid s [] q.0 in
-    let inM = familiar-object s.n o (or-false (strangeObject s.n o) _ q.1.0).0 in
-    let i = refused-iff s (file o) (sessionChecks s [] ++ take 1 (filingChecks s o)) (contradicts (force s) o) 0
-    _ (only-12 (leb (s.lent.rows / 2) (length s.rows))) (sym (append_assoc (sessionChecks s []) (take 1 (filingChecks s o)) _)) p refl in
+    let inM = familiar-object s.n o (or-false (strange_object s.n o) _ q.1.0).0 in
+    let i = refused-iff s (file o) (session_checks s [] ++ take 1 (filing_checks s o)) (contradicts (force s) o) 0
+    _ (only-12 (leb (s.lent.rows / 2) (length s.rows))) (sym (append_assoc (session_checks s []) (take 1 (filing_checks s o)) _)) p refl in
     (λ e. against v (i.0 e), λ e. i.1 (decide (contradicts (force s) o) (λ f. e (closures s.n (force s) rows) (agrees v inM f))))
   where
     rows : List Object
@@ -179,37 +179,37 @@ filing s o up =
 
 -- where the test passes, a no is the filing
 no_call : (s : State) (o : Object) → NoUpTo11 s o → Refused11 s (reject o) ↔ Contradictory s (offered o)
-unfolding checksOf filingChecks testChecks
+unfolding checks_of filing_checks test_checks
 no_call s o up =
-    let p = passed-append (sessionChecks s []) (testChecks s o) up in
-    let nine = none-failing _ (append-passed (sessionChecks s []) (take 1 (filingChecks s o)) p.0 (p.1.1.0, tt)) in
+    let p = passed-append (session_checks s []) (test_checks s o) up in
+    let nine = none-failing _ (append-passed (session_checks s []) (take 1 (filing_checks s o)) p.0 (p.1.1.0, tt)) in
     subst (λ t. ((k : ℕ) × (t.answer ≡ refused (record { number = 11; place = k }))) ↔ Contradictory s (offered o)) (sym (test-passed s o up)) (filing s o nine)
 
 filling : (s : State) (k : ℕ) (m : Object) → FillUpTo11 s k m → Refused11 s (fill k m) ↔ ContradictoryFilled s k m
-unfolding fillChecks checksOf performed
+unfolding fill_checks checks_of performed
 filling s k m up =
-    let p = passed (sessionChecks s [] ++ take 3 (fillChecks s k m)) up in
-    let q = passed-append (sessionChecks s []) (take 3 (fillChecks s k m)) up in
+    let p = passed (session_checks s [] ++ take 3 (fill_checks s k m)) up in
+    let q = passed-append (session_checks s []) (take 3 (fill_checks s k m)) up in
     let v = valid s [] q.0 in
     let used = leb-false _ _ q.1.0 in
-    let inM = familiar-object s.n m (or-false (strangeObject s.n m) _ q.1.1.0).0 in
-    let i = refused-iff s (fill k m) (sessionChecks s [] ++ take 3 (fillChecks s k m)) (contradicts (force s) row) 0
-    [] (all_nil _) (sym (append_assoc (sessionChecks s []) (take 3 (fillChecks s k m)) _)) p refl in
+    let inM = familiar-object s.n m (or-false (strange_object s.n m) _ q.1.1.0).0 in
+    let i = refused-iff s (fill k m) (session_checks s [] ++ take 3 (fill_checks s k m)) (contradicts (force s) row) 0
+    [] (all_nil _) (sym (append_assoc (session_checks s []) (take 3 (fill_checks s k m)) _)) p refl in
     (λ e. against v used (i.0 e), λ e. i.1 (decide (contradicts (force s) row) (λ f. e (closures s.n (force s) rows) (agrees v used inM f))))
   where
     row : Object
-    row = joined (objectAt s.rows k) m
+    row = joined (object_at s.rows k) m
 
     rows : List Object
-    rows = filledAt k m s.rows
+    rows = filled_at k m s.rows
 
     against : Valid s → k < length s.rows → contradicts (force s) row ≡ true → ContradictoryFilled s k m
     against v used e t a = true≢false (sym e ∙ no-contradiction s.n t (force s) row a.complete v.over a.rules (a.rows row (filled_in k m s.rows used)))
 
-    agrees : Valid s → k < length s.rows → InM s.n m → contradicts (force s) row ≡ false → AgreesAll (afterFill s k m) (closures s.n (force s) rows)
+    agrees : Valid s → k < length s.rows → InM s.n m → contradicts (force s) row ≡ false → AgreesAll (after_fill s k m) (closures s.n (force s) rows)
     agrees v used inM f =
-        let was = v.rows (objectAt s.rows k) (object-member k s.rows used) in
-        let all = all-filled m k s.rows v.rows (joined_in s.n (objectAt s.rows k) m was inM) in
+        let was = v.rows (object_at s.rows k) (object-member k s.rows used) in
+        let all = all-filled m k s.rows v.rows (joined_in s.n (object_at s.rows k) m was inM) in
         let ok = all-filled m k s.rows v.consistent f in
         record {
           complete = closures-table s.n (force s) rows v.over all ok;
@@ -218,4 +218,4 @@ filling s k m up =
         }
 
 pub demand-2 : Demand2
-demand-2 = record { yes-call = yes-call; no_call = no_call; filing = filing; filling = filling }
+demand-2 = record { yes_call = yes_call; no_call = no_call; filing = filing; filling = filling }

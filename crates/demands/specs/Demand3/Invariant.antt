@@ -25,12 +25,12 @@ use Rattle.context.specs.Places.Laws.{anywhere-false}
 use Rattle.context.specs.Objects.{Object, has, lacks, contradicts}
 use Rattle.context.specs.Objects.Laws.{consistent-apart, has_more, lacks-more}
 use Rattle.reach.specs.Reach.{reach}
-use Rattle.context.specs.Filling.{joined, objectAt, filledAt}
+use Rattle.context.specs.Filling.{joined, object_at, filled_at}
 use Rattle.context.specs.Filling.Laws.{all-filled}
 use Rattle.reach.specs.Reach.Laws.{reach-great, reach-inside, reach-snoc, reach-filled, reach-more}
-use Rattle.machine.specs.Checks.{Lent, State, force, reachOf, question, withQuestion, firstFailing, sessionChecks, yesChecks, filingChecks, fillChecks}
+use Rattle.machine.specs.Checks.{Lent, State, force, reach_of, question, with_question, first_failing, session_checks, yes_checks, filing_checks, fill_checks}
 use Rattle.machine.specs.Checks.Laws.{passed, none-failing, passed-append, no_both, Valid, valid, Stands, stands}
-use Rattle.machine.specs.Machine.{Call, step, accept as accepting, reject, follow, refute, test, file, fill, afterMove, afterYes, afterFiling, afterFill, performed, checksOf, perform, run, opening, opened, openingState}
+use Rattle.machine.specs.Machine.{Call, step, accept as accepting, reject, follow, refute, test, file, fill, after_move, after_yes, after_filing, after_fill, performed, checks_of, perform, run, opening, opened, opening_state}
 use Rattle.machine.specs.Machine.Laws.{perform-cases, step-cases, opened-is}
 
 -- the sets of the background
@@ -69,7 +69,7 @@ module _ (n : ℕ) (B l : List (Implication ℕ)) (over : All (Over words (full 
 -- ---- the opening
 
 pub opening-reached : (n : ℕ) (lent : Lent) (B : List (Implication ℕ)) (rows : List Object)
-    → Valid (openingState n lent B rows) → Reached (openingState n lent B rows)
+    → Valid (opening_state n lent B rows) → Reached (opening_state n lent B rows)
 opening-reached n lent B rows v =
     let c = closure-least B 0 in
     record {
@@ -84,58 +84,58 @@ opening-reached n lent B rows v =
 -- ---- the calls
 
 module _ (s : State) (h : Reached s) where
-  pub current-in : Sub s.current (full s.n)
-  current-in = h.explored.here.base.inside
+  pub current_in : Sub s.current (full s.n)
+  current_in = h.explored.here.base.inside
 
-  pub moved-reached : (s.current ≡ full s.n → ⊥) → reachOf s ≡ s.current → Reached (afterMove s)
+  pub moved-reached : (s.current ≡ full s.n → ⊥) → reach_of s ≡ s.current → Reached (after_move s)
   moved-reached ne e = record {
     over = h.over;
     consistent = h.consistent;
     explored = move words (Base s) h.explored (subst (λ x. Sub x s.current) (sym e) (sub_refl s.current))
-        (next-model s.n s.background s.list h.over s.current current-in ne);
+        (next-model s.n s.background s.list h.over s.current current_in ne);
   }
 
   question-over : Over words (full s.n) (question s)
   question-over = record {
-    premise = current-in;
-    conclusion = sub_trans (without_sub (reachOf s) s.current) (reach-inside (force s) s.n s.rows s.current);
+    premise = current_in;
+    conclusion = sub_trans (without_sub (reach_of s) s.current) (reach-inside (force s) s.n s.rows s.current);
   }
 
-  with-question : force s ++ (question s ∷ []) ≡ withQuestion s
+  with-question : force s ++ (question s ∷ []) ≡ with_question s
   with-question = append_assoc s.background s.list (question s ∷ [])
 
-  pub with-over : All (Over words (full s.n)) (withQuestion s)
+  pub with-over : All (Over words (full s.n)) (with_question s)
   with-over = subst (λ l. All (Over words (full s.n)) l) with-question (all_snoc (force s) (question s) h.over question-over)
 
   -- the current set lies in its reach
-  current-reached : Sub s.current (reachOf s)
+  current-reached : Sub s.current (reach_of s)
   current-reached = h.explored.sound s.current s.current h.explored.here.base (λ z m i. i)
 
   -- the question's conclusion is new
   pub question-new : Stands s → Sub (question s).conclusion s.current → ⊥
   question-new t i =
-      t.differs (sub-antisym (sub_trans (without-or (reachOf s) s.current) (or-least (sub_refl s.current) i)) current-reached)
+      t.differs (sub-antisym (sub_trans (without-or (reach_of s) s.current) (or-least (sub_refl s.current) i)) current-reached)
 
-  pub yes-reached : Stands s → All (λ o. contradicts (withQuestion s) o ≡ false) s.rows → Reached (afterYes s)
+  pub yes-reached : Stands s → All (λ o. contradicts (with_question s) o ≡ false) s.rows → Reached (after_yes s)
   yes-reached t ok = record {
     over = with-over;
     consistent = ok;
     explored = shrink words (Base s)
-        (accept words (Base s) (question s) h.explored refl (question-new t) (without-apart (reachOf s) s.current)
-        (without-or (reachOf s) s.current)
+        (accept words (Base s) (question s) h.explored refl (question-new t) (without-apart (reach_of s) s.current)
+        (without-or (reach_of s) s.current)
         (sound-rows s.n s.background (s.list ++ (question s ∷ [])) with-over (force s) s.rows (λ o m q i.
         subst (λ l. Apart (closure l q) (lacks (force s) o)) with-question
         (apart-sub (sub_refl _) (lacks-more (force s) (question s ∷ []) o)
         (consistent-apart (force s ++ (question s ∷ [])) o (subst (λ l. contradicts l o ≡ false) (sym with-question) (ok o m)) (sub_trans i (has_more (force s) (question s ∷ []) o))))))
-        (next-model s.n s.background (s.list ++ (question s ∷ [])) with-over s.current current-in t.below))
+        (next-model s.n s.background (s.list ++ (question s ∷ [])) with-over s.current current_in t.below))
         (λ q. subst (λ l. Sub (reach l s.n s.rows q) (reach (force s) s.n s.rows q)) with-question
         (reach-more (force s) (question s ∷ []) s.n s.rows q))
-        (sound-rows s.n s.background (s.list ++ (question s ∷ [])) with-over (withQuestion s) s.rows
-        (λ o m q i. consistent-apart (withQuestion s) o (ok o m) i));
+        (sound-rows s.n s.background (s.list ++ (question s ∷ [])) with-over (with_question s) s.rows
+        (λ o m q i. consistent-apart (with_question s) o (ok o m) i));
   }
 
   -- one row more that does not contradict: a filing, and so a no
-  pub filed-reached : (o : Object) → contradicts (force s) o ≡ false → Reached (afterFiling s o)
+  pub filed-reached : (o : Object) → contradicts (force s) o ≡ false → Reached (after_filing s o)
   filed-reached o ok =
       let all = all_snoc s.rows o h.consistent ok in
       record {
@@ -145,33 +145,33 @@ module _ (s : State) (h : Reached s) where
             (sound-rows s.n s.background s.list h.over (force s) (s.rows ++ (o ∷ [])) (λ p m q i. consistent-apart (force s) p (all p m) i));
       }
 
-  filing-reached : (o : Object) → firstFailing (filingChecks s o) ≡ none → Reached (afterFiling s o)
-  unfolding filingChecks
-  filing-reached o e = filed-reached o (passed (filingChecks s o) e).1.0
+  filing-reached : (o : Object) → first_failing (filing_checks s o) ≡ none → Reached (after_filing s o)
+  unfolding filing_checks
+  filing-reached o e = filed-reached o (passed (filing_checks s o) e).1.0
 
   -- marks added to a row that does not contradict with them
-  pub filled-reached : (k : ℕ) (m : Object) → contradicts (force s) (joined (objectAt s.rows k) m) ≡ false → Reached (afterFill s k m)
+  pub filled-reached : (k : ℕ) (m : Object) → contradicts (force s) (joined (object_at s.rows k) m) ≡ false → Reached (after_fill s k m)
   filled-reached k m ok =
       let all = all-filled m k s.rows h.consistent ok in
       record {
         over = h.over;
         consistent = all;
         explored = shrink words (Base s) h.explored (λ q. reach-filled (force s) s.n s.rows q k m)
-            (sound-rows s.n s.background s.list h.over (force s) (filledAt k m s.rows) (λ p t q i. consistent-apart (force s) p (all p t) i));
+            (sound-rows s.n s.background s.list h.over (force s) (filled_at k m s.rows) (λ p t q i. consistent-apart (force s) p (all p t) i));
       }
 
-  performed-reached : (c : Call) → firstFailing (checksOf s c) ≡ none → Reached (performed s c).after
-  unfolding performed checksOf yesChecks fillChecks
+  performed-reached : (c : Call) → first_failing (checks_of s c) ≡ none → Reached (performed s c).after
+  unfolding performed checks_of yes_checks fill_checks
   performed-reached step e = step-cases s (λ t. Reached t.after) (λ f. h) moved-reached (λ a b. h)
   performed-reached accepting e =
-      let p = (passed-append (sessionChecks s []) (yesChecks s) e).1 in
+      let p = (passed-append (session_checks s []) (yes_checks s) e).1 in
       yes-reached (stands s (not-false _ p.0)) (anywhere-false _ s.rows p.1.0)
   performed-reached (reject o) e = filing-reached o (no_both s o e).1
   performed-reached (follow r) e = h
   performed-reached (refute r) e = h
   performed-reached (test o) e = h
-  performed-reached (file o) e = filing-reached o (none-failing _ (passed-append (sessionChecks s []) (filingChecks s o) e).1)
-  performed-reached (fill k m) e = filled-reached k m (passed-append (sessionChecks s []) (fillChecks s k m) e).1.1.1.1.0
+  performed-reached (file o) e = filing-reached o (none-failing _ (passed-append (session_checks s []) (filing_checks s o) e).1)
+  performed-reached (fill k m) e = filled-reached k m (passed-append (session_checks s []) (fill_checks s k m) e).1.1.1.1.0
 
 pub perform-reached : (s : State) (c : Call) → Reached s → Reached (perform s c).after
 perform-reached s c h = perform-cases s c (λ t. Reached t.after) (performed-reached s h c) (λ r e. h)

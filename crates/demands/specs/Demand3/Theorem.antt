@@ -25,9 +25,9 @@ use Rattle.reach.specs.Reach.Laws.{reach-great}
 use Rattle.context.specs.Tables.{Table, AgreesImplication, AgreesObject}
 use Rattle.context.specs.Tables.Laws.{agreeing-closed, follows-tables, refutes-extended}
 use Rattle.machine.specs.Checks.{Lent, State, force}
-use Rattle.machine.specs.Machine.{Call, run, opening, opened, openingState}
+use Rattle.machine.specs.Machine.{Call, run, opening, opened, opening_state}
 use Rattle.machine.specs.Machine.Laws.{finished-full, opened-is}
-use Rattle.demands.specs.Replies.{Reply, agreed, offered, filled, agreedIn, offeredIn, filledBy, replies, AgreesReply, Truthful}
+use Rattle.demands.specs.Replies.{Reply, agreed, offered, filled, agreed_in, offered_in, filled_by, replies, AgreesReply, Truthful}
 use Rattle.demands.specs.Replies.Laws.{run-same, run-rows, run-list}
 use Rattle.demands.specs.Demand3.{Finished, OverM, Unrefuted, SameConsequences, AfterCalls, SameList, Demand3}
 use Rattle.demands.specs.Demand3.Invariant.{Base, Reached, run-reached, opened-reached}
@@ -87,8 +87,8 @@ module _ (s : State) (h : Reached s) where
 -- ---- truthful interviews
 
 -- the agreed implications hold in a table that agrees with the replies
-agreed-all : (t : List Object) (rs : List Reply) → All (AgreesReply t) rs → All (AgreesImplication t) (agreedIn rs)
-unfolding agreedIn
+agreed-all : (t : List Object) (rs : List Reply) → All (AgreesReply t) rs → All (AgreesImplication t) (agreed_in rs)
+unfolding agreed_in
 agreed-all t [] h = all_nil _
 agreed-all t (agreed q ∷ rs) h = all_cons (h (agreed q) (Memᴰ.head refl)) (agreed-all t rs (λ r m. h r (Memᴰ.tail m)))
 agreed-all t (offered o ∷ rs) h = agreed-all t rs (λ r m. h r (Memᴰ.tail m))
@@ -99,7 +99,7 @@ unrefuted-by : (n : ℕ) (t : List Object) (rs : List (Implication ℕ)) → Tab
     → (o : Object) (r : Implication ℕ) → OverM n r → AgreesObject t o → AgreesImplication t r → refutes rs o r ≡ false
 unrefuted-by n t rs table over agrees o r i a h = go (refutes rs o r) refl
   where
-    closed : Closed words rs a.by.yes-marks
+    closed : Closed words rs a.by.yes_marks
     closed = agreeing-closed n t rs table over agrees a.by a.member
 
     go : (b : Bool) → refutes rs o r ≡ b → b ≡ false
@@ -115,7 +115,7 @@ module _ (n : ℕ) (lent : Lent) (background : List (Implication ℕ)) (rows : L
   reached : Reached end
   reached = run-reached start calls (opened-reached n lent background rows start o)
 
-  is-start : start ≡ openingState n lent background rows
+  is-start : start ≡ opening_state n lent background rows
   is-start = (opened-is n lent background rows start o).0
 
   end-n : end.n ≡ n
@@ -124,15 +124,15 @@ module _ (n : ℕ) (lent : Lent) (background : List (Implication ℕ)) (rows : L
   end-background : end.background ≡ background
   end-background = (run-same start calls).background ∙ ap (λ (x : State). x.background) is-start
 
-  end_list : end.list ≡ agreedIn (replies start calls)
-  end_list = run-list start calls ∙ ap (λ (x : State). x.list ++ agreedIn (replies start calls)) is-start
+  end_list : end.list ≡ agreed_in (replies start calls)
+  end_list = run-list start calls ∙ ap (λ (x : State). x.list ++ agreed_in (replies start calls)) is-start
 
-  after-calls : AfterCalls n lent background rows start calls
-  after-calls = record {
-    same-n = end-n;
-    same-lent = (run-same start calls).lent ∙ ap (λ (x : State). x.lent) is-start;
-    same-background = end-background;
-    all-rows = run-rows start calls ∙ ap (λ (x : State). filledBy (replies start calls) (x.rows ++ offeredIn (replies start calls))) is-start;
+  after_calls : AfterCalls n lent background rows start calls
+  after_calls = record {
+    same_n = end-n;
+    same_lent = (run-same start calls).lent ∙ ap (λ (x : State). x.lent) is-start;
+    same_background = end-background;
+    all_rows = run-rows start calls ∙ ap (λ (x : State). filled_by (replies start calls) (x.rows ++ offered_in (replies start calls))) is-start;
     all_list = end_list;
     decided = λ f r i. rw (← end-background) (decided end reached f r (rw end-n i));
     shortest = λ l i same. shortest end reached l (rw end-n i) (rw (end-n, end-background) same);
@@ -149,7 +149,7 @@ module _ (n : ℕ) (lent : Lent) (background : List (Implication ℕ)) (rows : L
       → (r : Implication ℕ) → OverM n r → (follows (background ++ end.list) r ≡ true) ↔ AgreesImplication t r
   true-end f t h r i = (
     λ e. (follows-tables n (background ++ end.list) over-end r i).0 e t complete rules,
-    λ a. (after-calls.decided f r i).1 (λ x m. subst (λ b. refutes (b ++ end.list) x r ≡ false) (sym end-background)
+    λ a. (after_calls.decided f r i).1 (λ x m. subst (λ b. refutes (b ++ end.list) x r ≡ false) (sym end-background)
         (unrefuted-by n t (background ++ end.list) complete over-end rules x r i (h.rows x m) a)),
   )
     where
@@ -161,8 +161,8 @@ module _ (n : ℕ) (lent : Lent) (background : List (Implication ℕ)) (rows : L
           (subst (λ l. All (AgreesImplication t) l) (sym end_list) (agreed-all t (replies start calls) h.replied))
 
 -- 5.
-same-list : (n : ℕ) (background : List (Implication ℕ)) → SameList n background
-same-list n background lent lent' rows rows' start start' o o' calls calls' f f' t h h' =
+same_list : (n : ℕ) (background : List (Implication ℕ)) → SameList n background
+same_list n background lent lent' rows rows' start start' o o' calls calls' f f' t h h' =
     unique-list words (full n) background closure closure-least (run start calls).list (run start' calls').list
     (canonical-end n lent background rows start o calls) (canonical-end n lent' background rows' start' o' calls')
     (consequences n background (run start calls).list (run start' calls').list (λ r i.
@@ -170,5 +170,5 @@ same-list n background lent lent' rows rows' start start' o o' calls calls' f f'
     let b = true-end n lent' background rows' start' o' calls' f' t h' r i in
     (λ k. b.1 (a.0 k), λ k. a.1 (b.0 k))))
 
-pub demand-3 : Demand3
-demand-3 = record { after-calls = after-calls; same-list = same-list }
+pub demand_3 : Demand3
+demand_3 = record { after_calls = after_calls; same_list = same_list }

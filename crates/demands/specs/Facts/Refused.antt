@@ -10,11 +10,11 @@ use Rattle.theory.specs.Lists.Laws.{all_nil, all_cons, all_append}
 use Rattle.theory.specs.Implications.{Implication}
 use Rattle.context.specs.Places.{lowest, anywhere}
 use Rattle.context.specs.Places.Laws.{lowest-at}
-use Rattle.context.specs.Objects.{Object, markedTwice, contradicts}
+use Rattle.context.specs.Objects.{Object, marked_twice, contradicts}
 use Rattle.session.specs.declared.Refusal.{Refusal}
 use Rattle.session.specs.Refusals.{refusal}
-use Rattle.machine.specs.Checks.{Lent, State, Check, firstFailing, sessionChecks, yesChecks, testChecks, filingChecks, fillChecks, force, withQuestion}
-use Rattle.machine.specs.Machine.{Call, step, accept, reject, follow, refute, test, file, fill, refused, checksOf, perform, Opening, opened, rejected, opening, openingState}
+use Rattle.machine.specs.Checks.{Lent, State, Check, first_failing, session_checks, yes_checks, test_checks, filing_checks, fill_checks, force, with_question}
+use Rattle.machine.specs.Machine.{Call, step, accept, reject, follow, refute, test, file, fill, refused, checks_of, perform, Opening, opened, rejected, opening, opening_state}
 use Rattle.machine.specs.Machine.Laws.{refused-failing}
 use Rattle.demands.specs.Facts.Kept.{failing-number, test-numbers, filing-numbers, FillNumber, fill-numbers}
 
@@ -25,22 +25,22 @@ pub record Lowest {A : Type 0} (f : A → Bool) (l : List A) (place : ℕ) : Typ
   pub first : (d : A) (i : ℕ) → i < place → f (get_or l i d) ≡ false
 
 pub record RightPlace (s : State) (c : Call) (r : Refusal) : Type 0 where
-  pub five : r.number ≡ 5 → Lowest markedTwice s.rows r.place
+  pub five : r.number ≡ 5 → Lowest marked_twice s.rows r.place
   pub six : r.number ≡ 6 → Lowest (contradicts (force s)) s.rows r.place
-  pub eleven : c ≡ accept → r.number ≡ 11 → Lowest (contradicts (withQuestion s)) s.rows r.place
+  pub eleven : c ≡ accept → r.number ≡ 11 → Lowest (contradicts (with_question s)) s.rows r.place
   pub other : (r.number ≡ 5 → ⊥) → (r.number ≡ 6 → ⊥) → (c ≡ accept → r.number ≡ 11 → ⊥) → r.place ≡ 0
 
 -- ---- the check that fails
 
 -- a refusal is that of a check of the list that fails
 pub failing-check : (P : Refusal → Type 0) (cs : List Check) → All (λ c. c.fails ≡ true → P (refusal c.number c.place)) cs
-    → (r : Refusal) → firstFailing cs ≡ some r → P r
-unfolding firstFailing
+    → (r : Refusal) → first_failing cs ≡ some r → P r
+unfolding first_failing
 failing-check P [] all r e = absurd (some-ne-none _ (sym e))
 failing-check P (c ∷ cs) all r e = go c.fails refl (failing-check P cs (λ x m. all x (Memᴰ.tail m)) r) e
   where
-    go : (b : Bool) → c.fails ≡ b → (firstFailing cs ≡ some r → P r)
-        → ◌≡◌ {A = Option Refusal} (elim b [ true ↦ some (refusal c.number c.place) | false ↦ firstFailing cs ]) (some r) → P r
+    go : (b : Bool) → c.fails ≡ b → (first_failing cs ≡ some r → P r)
+        → ◌≡◌ {A = Option Refusal} (elim b [ true ↦ some (refusal c.number c.place) | false ↦ first_failing cs ]) (some r) → P r
     go true f ih h =
         let same : refusal c.number c.place ≡ r = cc in
         subst P same (all c (Memᴰ.head refl) f)
@@ -60,8 +60,8 @@ module _ (s : State) (c : Call) where
   small : (k : ℕ) → k < 5 → RightPlace s c (refusal k 0)
   small k h = plain k (λ e. omega arith) (λ e. omega arith) (λ _ e. omega arith)
 
-  session-places : (asked : List (Implication ℕ)) → All (λ x. x.fails ≡ true → RightPlace s c (refusal x.number x.place)) (sessionChecks s asked)
-  unfolding sessionChecks
+  session-places : (asked : List (Implication ℕ)) → All (λ x. x.fails ≡ true → RightPlace s c (refusal x.number x.place)) (session_checks s asked)
+  unfolding session_checks
   session-places asked =
       all_cons (λ _. small 1 (omega arith)) (all_cons (λ _. small 2 (omega arith)) (all_cons (λ _. small 3 (omega arith)) (all_cons (λ _. small 4 (omega arith))
       (all_cons (λ f. record { five = λ _. lowest-row _ s.rows f; six = λ e. absurd (omega arith); eleven = λ _ e. absurd (omega arith); other = λ a _ _. absurd (a refl) })
@@ -72,8 +72,8 @@ module _ (s : State) (c : Call) where
   late : (k : ℕ) → 7 < k → (c ≡ accept → k ≡ 11 → ⊥) → RightPlace s c (refusal k 0)
   late k h d = plain k (λ e. omega arith) (λ e. omega arith) d
 
-yes-places : (s : State) → All (λ x. x.fails ≡ true → RightPlace s accept (refusal x.number x.place)) (yesChecks s)
-unfolding yesChecks
+yes-places : (s : State) → All (λ x. x.fails ≡ true → RightPlace s accept (refusal x.number x.place)) (yes_checks s)
+unfolding yes_checks
 yes-places s =
     all_cons (λ _. late s accept 8 (omega arith) (λ _ e. omega arith))
     (all_cons (λ f. record { five = λ e. absurd (omega arith); six = λ e. absurd (omega arith); eleven = λ _ _. lowest-row _ s.rows f; other = λ _ _ a. absurd (a refl refl) })
@@ -96,52 +96,52 @@ module _ (s : State) (c : Call) (other : c ≡ accept → ⊥) (o : Object) wher
   at : (k : ℕ) → 7 < k → RightPlace s c (refusal k 0)
   at k h = late s c k h (λ e _. other e)
 
-  test-places : All (λ x. x.fails ≡ true → RightPlace s c (refusal x.number x.place)) (testChecks s o)
-  unfolding testChecks
+  test-places : All (λ x. x.fails ≡ true → RightPlace s c (refusal x.number x.place)) (test_checks s o)
+  unfolding test_checks
   test-places = all_cons (λ _. at 8 (omega arith)) (all_cons (λ _. at 9 (omega arith)) (all_cons (λ _. at 10 (omega arith)) (all_nil _)))
 
-  filing-places : All (λ x. x.fails ≡ true → RightPlace s c (refusal x.number x.place)) (filingChecks s o)
-  unfolding filingChecks
+  filing-places : All (λ x. x.fails ≡ true → RightPlace s c (refusal x.number x.place)) (filing_checks s o)
+  unfolding filing_checks
   filing-places = all_cons (λ _. at 9 (omega arith)) (all_cons (λ _. at 11 (omega arith)) (all_cons (λ _. at 12 (omega arith)) (all_nil _)))
 
-  fill-places : (k : ℕ) → All (λ x. x.fails ≡ true → RightPlace s c (refusal x.number x.place)) (fillChecks s k o)
-  unfolding fillChecks
+  fill-places : (k : ℕ) → All (λ x. x.fails ≡ true → RightPlace s c (refusal x.number x.place)) (fill_checks s k o)
+  unfolding fill_checks
   fill-places k =
       all_cons (λ _. at 32 (omega arith)) (all_cons (λ _. at 9 (omega arith)) (all_cons (λ _. at 33 (omega arith)) (all_cons (λ _. at 11 (omega arith)) (all_nil _))))
 
-all-places : (s : State) (c : Call) → All (λ x. x.fails ≡ true → RightPlace s c (refusal x.number x.place)) (checksOf s c)
-unfolding checksOf
+all-places : (s : State) (c : Call) → All (λ x. x.fails ≡ true → RightPlace s c (refusal x.number x.place)) (checks_of s c)
+unfolding checks_of
 all-places s step = session-places s step []
-all-places s accept = all_append (sessionChecks s []) (yesChecks s) (session-places s accept []) (yes-places s)
+all-places s accept = all_append (session_checks s []) (yes_checks s) (session-places s accept []) (yes-places s)
 all-places s (reject o) =
     let other = no-is-no-yes o in
-    all_append (sessionChecks s []) _ (session-places s (reject o) [])
-    (all_append (testChecks s o) (filingChecks s o) (test-places s (reject o) other o) (filing-places s (reject o) other o))
+    all_append (session_checks s []) _ (session-places s (reject o) [])
+    (all_append (test_checks s o) (filing_checks s o) (test-places s (reject o) other o) (filing-places s (reject o) other o))
 all-places s (follow q) = session-places s (follow q) (q ∷ [])
 all-places s (refute q) = session-places s (refute q) (q ∷ [])
 all-places s (test o) =
-    all_append (sessionChecks s []) (testChecks s o) (session-places s (test o) []) (test-places s (test o) (test-is-no-yes o) o)
+    all_append (session_checks s []) (test_checks s o) (session-places s (test o) []) (test-places s (test o) (test-is-no-yes o) o)
 all-places s (file o) =
-    all_append (sessionChecks s []) (filingChecks s o) (session-places s (file o) []) (filing-places s (file o) (filing-is-no-yes o) o)
+    all_append (session_checks s []) (filing_checks s o) (session-places s (file o) []) (filing-places s (file o) (filing-is-no-yes o) o)
 all-places s (fill k m) =
-    all_append (sessionChecks s []) (fillChecks s k m) (session-places s (fill k m) []) (fill-places s (fill k m) (fill-is-no-yes k m) m k)
+    all_append (session_checks s []) (fill_checks s k m) (session-places s (fill k m) []) (fill-places s (fill k m) (fill-is-no-yes k m) m k)
 
 pub right-place : (s : State) (c : Call) (r : Refusal) → (perform s c).answer ≡ refused r → RightPlace s c r
-right-place s c r h = failing-check (RightPlace s c) (checksOf s c) (all-places s c) r (refused-failing s c r h)
+right-place s c r h = failing-check (RightPlace s c) (checks_of s c) (all-places s c) r (refused-failing s c r h)
 
 -- ---- the numbers
 
 abbrev pub Between : ℕ → ℕ → ℕ → Type 0
 Between a b k = (a ≤ k) × (k ≤ b)
 
-session-numbers : (s : State) (asked : List (Implication ℕ)) → All (λ x. Between 1 7 x.number) (sessionChecks s asked)
-unfolding sessionChecks
+session-numbers : (s : State) (asked : List (Implication ℕ)) → All (λ x. Between 1 7 x.number) (session_checks s asked)
+unfolding session_checks
 session-numbers s asked =
     all_cons (omega arith) (all_cons (omega arith) (all_cons (omega arith) (all_cons (omega arith) (all_cons (omega arith) (all_cons (omega arith)
     (all_cons (omega arith) (all_nil _)))))))
 
-yes-numbers : (s : State) → All (λ x. Between 1 12 x.number) (yesChecks s)
-unfolding yesChecks
+yes-numbers : (s : State) → All (λ x. Between 1 12 x.number) (yes_checks s)
+unfolding yes_checks
 yes-numbers s = all_cons (omega arith) (all_cons (omega arith) (all_cons (omega arith) (all_nil _)))
 
 -- the numbers that a call may be refused with
@@ -155,34 +155,34 @@ KnownNumber (test o) k = Between 1 10 k
 KnownNumber (file o) k = Between 1 12 k
 KnownNumber (fill r m) k = Between 1 7 k ⊎ FillNumber k
 
-all-numbers : (s : State) (c : Call) → All (λ x. KnownNumber c x.number) (checksOf s c)
-unfolding checksOf
+all-numbers : (s : State) (c : Call) → All (λ x. KnownNumber c x.number) (checks_of s c)
+unfolding checks_of
 all-numbers s c = go c
   where
-    early : (b : ℕ) → 7 ≤ b → (asked : List (Implication ℕ)) → All (λ x. Between 1 b x.number) (sessionChecks s asked)
+    early : (b : ℕ) → 7 ≤ b → (asked : List (Implication ℕ)) → All (λ x. Between 1 b x.number) (session_checks s asked)
     early b le asked x m = let h = session-numbers s asked x m in (h.0, omega (arith, h.1, le))
 
-    tested : (b : ℕ) → 10 ≤ b → (o : Object) → All (λ x. Between 1 b x.number) (testChecks s o)
+    tested : (b : ℕ) → 10 ≤ b → (o : Object) → All (λ x. Between 1 b x.number) (test_checks s o)
     tested b le o x m = let h = test-numbers s o x m in (omega (arith, h.0), omega (arith, h.1, le))
 
-    filed : (o : Object) → All (λ x. Between 1 12 x.number) (filingChecks s o)
+    filed : (o : Object) → All (λ x. Between 1 12 x.number) (filing_checks s o)
     filed o x m = let h = filing-numbers s o x m in (omega (arith, h.0), h.1)
 
-    go : (d : Call) → All (λ x. KnownNumber d x.number) (checksOf s d)
+    go : (d : Call) → All (λ x. KnownNumber d x.number) (checks_of s d)
     go step = session-numbers s []
-    go accept = all_append (sessionChecks s []) (yesChecks s) (early 12 (omega arith) []) (yes-numbers s)
+    go accept = all_append (session_checks s []) (yes_checks s) (early 12 (omega arith) []) (yes-numbers s)
     go (reject o) =
-        all_append (sessionChecks s []) _ (early 12 (omega arith) [])
-        (all_append (testChecks s o) (filingChecks s o) (tested 12 (omega arith) o) (filed o))
+        all_append (session_checks s []) _ (early 12 (omega arith) [])
+        (all_append (test_checks s o) (filing_checks s o) (tested 12 (omega arith) o) (filed o))
     go (follow q) = session-numbers s (q ∷ [])
     go (refute q) = session-numbers s (q ∷ [])
-    go (test o) = all_append (sessionChecks s []) (testChecks s o) (early 10 (omega arith) []) (tested 10 (omega arith) o)
-    go (file o) = all_append (sessionChecks s []) (filingChecks s o) (early 12 (omega arith) []) (filed o)
+    go (test o) = all_append (session_checks s []) (test_checks s o) (early 10 (omega arith) []) (tested 10 (omega arith) o)
+    go (file o) = all_append (session_checks s []) (filing_checks s o) (early 12 (omega arith) []) (filed o)
     go (fill k m) =
-        all_append (sessionChecks s []) (fillChecks s k m) (λ x t. inl (session-numbers s [] x t)) (λ x t. inr (fill-numbers s k m x t))
+        all_append (session_checks s []) (fill_checks s k m) (λ x t. inl (session-numbers s [] x t)) (λ x t. inr (fill-numbers s k m x t))
 
 pub known-number : (s : State) (c : Call) (r : Refusal) → (perform s c).answer ≡ refused r → KnownNumber c r.number
-known-number s c r h = failing-number (KnownNumber c) (checksOf s c) (all-numbers s c) r (refused-failing s c r h)
+known-number s c r h = failing-number (KnownNumber c) (checks_of s c) (all-numbers s c) r (refused-failing s c r h)
 
 fill-small : All (λ k. k < 100) (32 ∷ 9 ∷ 33 ∷ 11 ∷ [])
 fill-small = all_cons (omega arith) (all_cons (omega arith) (all_cons (omega arith) (all_cons (omega arith) (all_nil _))))
@@ -205,24 +205,24 @@ small-number s c r h = go c (known-number s c r h)
 -- ---- the opening
 
 opening-failing : (n : ℕ) (lent : Lent) (background : List (Implication ℕ)) (rows : List Object) (r : Refusal) → opening n lent background rows ≡ rejected r
-    → firstFailing (sessionChecks (openingState n lent background rows) []) ≡ some r
+    → first_failing (session_checks (opening_state n lent background rows) []) ≡ some r
 unfolding opening
-opening-failing n lent background rows r = go (firstFailing (sessionChecks (openingState n lent background rows) [])) refl
+opening-failing n lent background rows r = go (first_failing (session_checks (opening_state n lent background rows) [])) refl
   where
-    go : (v : Option Refusal) → firstFailing (sessionChecks (openingState n lent background rows) []) ≡ v
-        → elim v as (λ x. Opening) [ none ↦ opened (openingState n lent background rows) | some x ↦ rejected x ] ≡ rejected r
-        → firstFailing (sessionChecks (openingState n lent background rows) []) ≡ some r
+    go : (v : Option Refusal) → first_failing (session_checks (opening_state n lent background rows) []) ≡ v
+        → elim v as (λ x. Opening) [ none ↦ opened (opening_state n lent background rows) | some x ↦ rejected x ] ≡ rejected r
+        → first_failing (session_checks (opening_state n lent background rows) []) ≡ some r
     go none e h = absurd (let z : ◌≡◌ {A = ℕ} 0 1 = cc in omega arith)
     go (some x) e h = let same : x ≡ r = cc in e ∙ ap some same
 
 pub opening-number : (n : ℕ) (lent : Lent) (background : List (Implication ℕ)) (rows : List Object) (r : Refusal)
     → opening n lent background rows ≡ rejected r → Between 1 7 r.number
 opening-number n lent background rows r h =
-    failing-number (Between 1 7) (sessionChecks (openingState n lent background rows) []) (session-numbers (openingState n lent background rows) []) r
+    failing-number (Between 1 7) (session_checks (opening_state n lent background rows) []) (session-numbers (opening_state n lent background rows) []) r
     (opening-failing n lent background rows r h)
 
 pub opening-place : (n : ℕ) (lent : Lent) (background : List (Implication ℕ)) (rows : List Object) (r : Refusal)
-    → opening n lent background rows ≡ rejected r → RightPlace (openingState n lent background rows) step r
+    → opening n lent background rows ≡ rejected r → RightPlace (opening_state n lent background rows) step r
 opening-place n lent background rows r h =
-    let s = openingState n lent background rows in
-    failing-check (RightPlace s step) (sessionChecks s []) (session-places s step []) r (opening-failing n lent background rows r h)
+    let s = opening_state n lent background rows in
+    failing-check (RightPlace s step) (session_checks s []) (session-places s step []) r (opening-failing n lent background rows r h)

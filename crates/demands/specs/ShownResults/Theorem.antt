@@ -12,12 +12,12 @@ use Rattle.attribute_set.specs.Sets.Laws.{without_sub}
 use Rattle.implication.specs.Closure.Laws.{listed-follows, follows-sub}
 use Rattle.context.specs.Objects.{Object, object}
 use Rattle.context.specs.Objects.Laws.{refutes-has, refutes-lacks}
-use Rattle.context.specs.Filling.{objectAt}
+use Rattle.context.specs.Filling.{object_at}
 use Rattle.context.specs.Filling.Laws.{object-member}
 use Rattle.reach.specs.Reach.Laws.{reach-apart}
-use Rattle.machine.specs.Checks.{Lent, State, force, reachOf, question, withQuestion, firstFailing, sessionChecks}
+use Rattle.machine.specs.Checks.{Lent, State, force, reach_of, question, with_question, first_failing, session_checks}
 use Rattle.machine.specs.Checks.Laws.{no_both, Stands}
-use Rattle.machine.specs.Machine.{Call, step, accept, reject, follow, refute, test, file, fill, taken, afterFiling, performed, checksOf, perform, run, opening, opened}
+use Rattle.machine.specs.Machine.{Call, step, accept, reject, follow, refute, test, file, fill, taken, after_filing, performed, checks_of, perform, run, opening, opened}
 use Rattle.machine.specs.Machine.Laws.{perform-cases, finished-full}
 use Rattle.demands.specs.Replies.Laws.{run-same}
 use Rattle.demands.specs.Demand3.{Finished}
@@ -26,8 +26,8 @@ use Rattle.demands.specs.Demand3.Theorem.{decided, shortest}
 use Rattle.demands.specs.Facts.{Fine}
 use Rattle.demands.specs.Facts.Laws.{checks-fine, fine-checks, checks-test}
 use Rattle.demands.specs.Facts.Kept as kept
-use Rattle.demands.specs.ShownResults.{RefutedBy, Refuted, Settled, firstRow, Asks, SaysFollows, SaysRefuted, ResultsStay, AnswersStay, QuestionsStay, ShownResults, Settles, AnsweredOnce, Request8}
-use Rattle.demands.specs.ShownResults.Laws.{run-append, run-follows, run-refuted, run_settled, first-least, first-refutes, first-used, refuted-or-not, said-follows, says-follows, said-refuted, says-refuted, fine-apart, never-said-both}
+use Rattle.demands.specs.ShownResults.{RefutedBy, Refuted, Settled, first_row, Asks, SaysFollows, SaysRefuted, ResultsStay, AnswersStay, QuestionsStay, ShownResults, Settles, AnsweredOnce, Request8}
+use Rattle.demands.specs.ShownResults.Laws.{run-append, run-follows, run-refuted, run_settled, first-least, first-refutes, first-used, refuted-or-not, said-follows, says-follows, said-refuted, says-refuted, fine-apart, never_said_both}
 
 -- ---- a question
 
@@ -40,23 +40,23 @@ asked-open s h f q a d =
     go : Stands s → Settled s (question s) → ⊥
     go t (inl e) = question-new s h t (subst (λ x. Sub (question s).conclusion x) f.closed (follows-sub (force s) (question s) e))
     go t (inr (k, r)) =
-        let o = objectAt s.rows k in
+        let o = object_at s.rows k in
         let m = refutes-lacks (force s) o (question s) r.by_row in
         let clear = reach-apart (force s) s.n s.rows s.current o (object-member k s.rows r.used) (refutes-has (force s) o (question s) r.by_row) in
-        clear.at m.0 ((without_sub (reachOf s) s.current).at m.0 m.1) m.2
+        clear.at m.0 ((without_sub (reach_of s) s.current).at m.0 m.1) m.2
 
 -- an accepted reply settles it: after a yes it follows, after a no the offered row refutes it
 reply-settles : (s : State) → Fine s → (c : Call) → Settles s c
-unfolding performed checksOf
+unfolding performed checks_of
 reply-settles s f step i q a = absurd i
 reply-settles s f accept i q a =
     perform-cases s accept (λ t. t.answer ≡ taken → Settled t.after q)
     (λ e h. subst (λ x. Settled (performed s accept).after x) (sym (kept.asked-stands s f q a).1)
-    (inl (listed-follows (withQuestion s) (question s) (Memᴰ.append_right s.background (Memᴰ.append_right s.list (Memᴰ.head refl))))))
+    (inl (listed-follows (with_question s) (question s) (Memᴰ.append_right s.background (Memᴰ.append_right s.list (Memᴰ.head refl))))))
     (λ r e h. absurd (let z : ◌≡◌ {A = ℕ} 0 1 = cc in omega arith))
 reply-settles s f (reject o) i q a =
     perform-cases s (reject o) (λ t. t.answer ≡ taken → Settled t.after q)
-    (λ e h. subst (λ x. Settled (afterFiling s o) x) (sym (kept.asked-stands s f q a).1)
+    (λ e h. subst (λ x. Settled (after_filing s o) x) (sym (kept.asked-stands s f q a).1)
     (inr (
       length s.rows,
       record {
@@ -74,8 +74,8 @@ reply-settles s f (fill k m) i q a = absurd i
 -- ---- from an accepted opening
 
 -- checks 1 to 7 of a call about r pass again where the state is fine
-checked-again : (s : State) (calls : List Call) (r : Implication ℕ) → Fine (run s calls) → firstFailing (sessionChecks s (r ∷ [])) ≡ none
-    → firstFailing (sessionChecks (run s calls) (r ∷ [])) ≡ none
+checked-again : (s : State) (calls : List Call) (r : Implication ℕ) → Fine (run s calls) → first_failing (session_checks s (r ∷ [])) ≡ none
+    → first_failing (session_checks (run s calls) (r ∷ [])) ≡ none
 checked-again s calls r f e = fine-checks (run s calls) (r ∷ []) f (rw (run-same s calls).n (checks-fine s (r ∷ []) e).1)
 
 module _ (n : ℕ) (lent : Lent) (background : List (Implication ℕ)) (rows : List Object) (start : State)
@@ -93,77 +93,77 @@ module _ (n : ℕ) (lent : Lent) (background : List (Implication ℕ)) (rows : L
     abbrev later : State
     later = run shown more
 
-    in-turn : run start (calls ++ more) ≡ later
-    in-turn = run-append start calls more
+    as_in_turn : run start (calls ++ more) ≡ later
+    as_in_turn = run-append start calls more
 
     fine-later : Fine later
-    fine-later = subst (λ s. Fine s) in-turn (fine (calls ++ more))
+    fine-later = subst (λ s. Fine s) as_in_turn (fine (calls ++ more))
 
     reached-later : Reached later
-    reached-later = subst (λ s. Reached s) in-turn (reached (calls ++ more))
+    reached-later = subst (λ s. Reached s) as_in_turn (reached (calls ++ more))
 
     -- the first row that refutes goes on refuting
-    first-again : (r : Implication ℕ) → Refuted shown r → RefutedBy later r (firstRow shown r)
-    first-again r h = run-refuted shown more r (firstRow shown r) (first-refutes shown r (first-used shown r h))
+    first-again : (r : Implication ℕ) → Refuted shown r → RefutedBy later r (first_row shown r)
+    first-again r h = run-refuted shown more r (first_row shown r) (first-refutes shown r (first-used shown r h))
 
     results-stay : ResultsStay shown later
     results-stay = record {
-      follows-stays = run-follows shown more;
-      refuted-stays = λ r h. (h.0, run-refuted shown more r h.0 h.1);
+      follows_stays = run-follows shown more;
+      refuted_stays = λ r h. (h.0, run-refuted shown more r h.0 h.1);
       row_stays = run-refuted shown more;
-      first-stays = λ r h. first-least later r (firstRow shown r) (first-again r h);
+      first_stays = λ r h. first-least later r (first_row shown r) (first-again r h);
       never_both = λ r. fine-apart shown r (fine calls);
       shortest = shortest shown (reached calls);
     }
 
-    follows-again : (r : Implication ℕ) → SaysFollows shown r → SaysFollows later r
-    unfolding checksOf
-    follows-again r a =
+    follows_again : (r : Implication ℕ) → SaysFollows shown r → SaysFollows later r
+    unfolding checks_of
+    follows_again r a =
         let t = said-follows shown r a in
         says-follows later r (checked-again shown more r fine-later t.0) (run-follows shown more r t.1)
 
-    refuted-again : (r : Implication ℕ) (k : ℕ) → SaysRefuted shown r k → (j : ℕ) × (j ≤ k) × SaysRefuted later r j
-    unfolding checksOf
-    refuted-again r k a =
+    refuted_again : (r : Implication ℕ) (k : ℕ) → SaysRefuted shown r k → (j : ℕ) × (j ≤ k) × SaysRefuted later r j
+    unfolding checks_of
+    refuted_again r k a =
         let t = said-refuted shown r k a in (
-          firstRow later r,
-          omega (arith, results-stay.first-stays r t.2, t.1),
-          says-refuted later r (checked-again shown more r fine-later t.0) (results-stay.refuted-stays r t.2),
+          first_row later r,
+          omega (arith, results-stay.first_stays r t.2, t.1),
+          says-refuted later r (checked-again shown more r fine-later t.0) (results-stay.refuted_stays r t.2),
         )
 
     answers_stay : AnswersStay shown later
     answers_stay = record {
-      follows-again = follows-again;
-      refuted-again = refuted-again;
-      never-said-both = never-said-both shown;
-      not-refuted-later = λ r k a b. never-said-both later r k (follows-again r a) b;
-      not-followed-later = λ r k a b. let t = refuted-again r k a in never-said-both later r t.0 b t.2;
+      follows_again = follows_again;
+      refuted_again = refuted_again;
+      never_said_both = never_said_both shown;
+      not_refuted_later = λ r k a b. never_said_both later r k (follows_again r a) b;
+      not_followed_later = λ r k a b. let t = refuted_again r k a in never_said_both later r t.0 b t.2;
     }
 
     still-finished : Finished shown → Finished later
-    still-finished = kept.stays-finished n lent background rows start o calls more
+    still-finished = kept.stays_finished n lent background rows start o calls more
 
     questions-stay : QuestionsStay shown later
     questions-stay = record {
-      not-asked = λ q d a. asked-open later reached-later fine-later q a (run_settled shown more q d);
-      stays-finished = still-finished;
-      list-stays = λ d. kept.list-stays shown more (finished-full shown d);
-      no-question-back = λ d q a. absurd (let e = still-finished d in let z : ◌≡◌ {A = ℕ} 0 1 = cc in omega arith);
-      nothing-open = λ d r over. ⊎_elim inr (λ h. inl ((decided shown (reached calls) d r over).1 h)) (refuted-or-not shown r);
+      not_asked = λ q d a. asked-open later reached-later fine-later q a (run_settled shown more q d);
+      stays_finished = still-finished;
+      list_stays = λ d. kept.list_stays shown more (finished-full shown d);
+      no_question_back = λ d q a. absurd (let e = still-finished d in let z : ◌≡◌ {A = ℕ} 0 1 = cc in omega arith);
+      nothing_open = λ d r over. ⊎_elim inr (λ h. inl ((decided shown (reached calls) d r over).1 h)) (refuted-or-not shown r);
     }
 
-    every-moment : ShownResults shown (run start (calls ++ more))
-    every-moment = rw in-turn (record { results = results-stay; answers = answers_stay; questions = questions-stay })
+    every_moment : ShownResults shown (run start (calls ++ more))
+    every_moment = rw as_in_turn (record { results = results-stay; answers = answers_stay; questions = questions-stay })
 
-  answered-once : (calls more : List Call) (c : Call) → AnsweredOnce (run start calls) c (run start (calls ++ (c ∷ more)))
+  answered_once : (calls more : List Call) (c : Call) → AnsweredOnce (run start calls) c (run start (calls ++ (c ∷ more)))
   unfolding run
-  answered-once calls more c i q a t b =
+  answered_once calls more c i q a t b =
       asked-open (run start (calls ++ (c ∷ more))) (reached (calls ++ (c ∷ more))) (fine (calls ++ (c ∷ more))) q b
       (rw (run-append start calls (c ∷ more)) (run_settled (perform (run start calls) c).after more q (reply-settles (run start calls) (fine calls) c i q a t)))
 
 pub request-8 : Request8
 request-8 = record {
-  every-moment = every-moment;
+  every_moment = every_moment;
   settles = λ n lent background rows start o calls. reply-settles (run start calls) (fine n lent background rows start o calls);
-  answered-once = answered-once;
+  answered_once = answered_once;
 }

@@ -2,7 +2,7 @@
 use mathlib.Core.Path.{ap, ◌∙◌}
 use borrow.Author.Rules.{rules}
 use Rattle.text.specs.Page.{page, text}
-use Rattle.refusal_words.specs.Words.{bytes, joined, lineNumber}
+use Rattle.refusal_words.specs.Words.{bytes, joined, line_number}
 use Rattle.expected_phrases.specs.Expected.{phrases}
 use Rattle.expected_phrases.proofs.put_expected.Statement.{statement}
 use Rattle.expected_phrases.proofs.put_expected.Tie as tie
@@ -13,7 +13,7 @@ returns c =
     let d = c.before.before in
     let e = d.before.before.before in
     let a = e.before.before.args in
-    d.put-line.ensures ∙ ap (λ k. text (page a.out.now a.at) (lineNumber k phrases)) e.above.ensures
+    d.put-line.ensures ∙ ap (λ k. text (page a.out.now a.at) (line_number k phrases)) e.above.ensures
 
 pub put-expected-spec : {M : Type 1} → statement M
 put-expected-spec =

@@ -5,7 +5,7 @@ use borrow.Author.Rules.{rules}
 use Rattle.text.specs.Page.{page, text}
 use Rattle.text.specs.Page.Laws.{text-on, text-end}
 use Rattle.refusal_words.specs.Words.{bytes}
-use Rattle.file_mistakes.specs.Mistakes.{mistakePhrase}
+use Rattle.file_mistakes.specs.Mistakes.{mistake_phrase}
 use Rattle.expected_phrases.specs.Expected.Laws.{mistake-22, mistake-other}
 use Rattle.expected_phrases.proofs.put_looks.Statement.{statement}
 use Rattle.expected_phrases.proofs.put_looks.Tie as tie
@@ -20,7 +20,7 @@ returns c =
     let a = t.before.before.before.args in
     let p = page a.out.now a.at in
     text-on p _ _ first.put-bytes.ensures second.put-mistake.ensures
-    ∙ ap (λ k. text p (bytes "; " ++ mistakePhrase k)) looks.looks-like.ensures
+    ∙ ap (λ k. text p (bytes "; " ++ mistake_phrase k)) looks.looks-like.ensures
     ∙ ap (text p) (sym (mistake-22 a.file.now a.number t.if1.true))
 
 returns-2 : tie.Need-returns-2

@@ -1,7 +1,7 @@
 -- The number of marks is said for 27 alone.
 use mathlib.Core.Path.{sym, ap, ◌∙◌}
 use borrow.Author.Rules.{rules}
-use Rattle.text.specs.Text.{numberText}
+use Rattle.text.specs.Text.{number_text}
 use Rattle.text.specs.Page.{page, text}
 use Rattle.text.specs.Page.Laws.{text-on, text-end}
 use Rattle.expected_phrases.specs.Expected.Laws.{marks-27, marks-other}
@@ -16,7 +16,7 @@ returns c =
     let t = count.before.before in
     let a = t.before.before.before.args in
     let p = page a.out.now a.at in
-    text-on p _ _ (first.put-number.ensures ∙ ap (λ k. text p (numberText k)) count.attribute-count.ensures) second.put_byte.ensures
+    text-on p _ _ (first.put-number.ensures ∙ ap (λ k. text p (number_text k)) count.attribute-count.ensures) second.put_byte.ensures
     ∙ ap (text p) (sym (marks-27 a.file.now a.number t.if1.true))
 
 returns-2 : tie.Need-returns-2

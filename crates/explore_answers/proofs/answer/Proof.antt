@@ -3,7 +3,7 @@ use mathlib.Core.Path.{◌≡◌, sym, subst}
 use native.Mathlib.Omega.{arith}
 use lib.ListN.{length}
 use lib.Seq.{length-take-le}
-use Rattle.table_layout.specs.Layout.{inputMost}
+use Rattle.table_layout.specs.Layout.{input_most}
 use Rattle.transcript.specs.Output.{output}
 use Rattle.transcript.specs.Output.Longer.{output-first}
 use Rattle.handed_output.specs.Handing.{WritesIn}
@@ -17,7 +17,7 @@ abbrev start : tie.After-smaller → tie.Start
 start c = c.before.before
 
 -- the buffer's length
-sized : (c : tie.After-smaller) → length (start c).args.file.now ≡ inputMost
+sized : (c : tie.After-smaller) → length (start c).args.file.now ≡ input_most
 sized c = search rules
 
 slice-aggregate-hold : tie.Need-slice-aggregate-hold
@@ -28,7 +28,7 @@ returns c =
     let d = c.before.before.before in
     let a = (start d).args in
     let held = c.hold.new.1.1.1.0 in
-    input-answered output inputMost output-first a.file.now a.out.now held a.size c.hold.result (sized d)
+    input-answered output input_most output-first a.file.now a.out.now held a.size c.hold.result (sized d)
     (subst (λ bs. WritesIn a.out.now held c.hold.result (output bs))
     (first-bytes a.size d.smaller.result a.file.now (omega (arith, sized d, d.smaller.ensures))) c.hold.ensures)
 

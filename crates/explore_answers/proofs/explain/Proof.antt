@@ -4,7 +4,7 @@ use native.Mathlib.Omega.{arith}
 use lib.ListN.{length}
 use lib.Seq.{length-take-le}
 use Rattle.text.specs.Page.{page, text}
-use Rattle.table_layout.specs.Layout.{inputMost}
+use Rattle.table_layout.specs.Layout.{input_most}
 use Rattle.refusal_reports.specs.Reports.{explanation}
 use Rattle.standard_streams.specs.First.{first-bytes}
 use borrow.Author.Rules.{rules}
@@ -15,7 +15,7 @@ abbrev start : tie.After-smaller → tie.Start
 start c = c.before.before
 
 -- the buffer's length
-sized : (c : tie.After-smaller) → length (start c).args.file.now ≡ inputMost
+sized : (c : tie.After-smaller) → length (start c).args.file.now ≡ input_most
 sized c = search rules
 
 slice-aggregate-put-explanation : tie.Need-slice-aggregate-put-explanation

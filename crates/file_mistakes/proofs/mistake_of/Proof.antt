@@ -2,13 +2,13 @@
 use mathlib.Core.Path.{◌≡◌, sym, ◌∙◌}
 use mathlib.Core.Bool.{false}
 use borrow.Author.Rules.{rules}
-use Rattle.file_mistakes.specs.Mistakes.{isOrderMark, is_wide}
+use Rattle.file_mistakes.specs.Mistakes.{is_order_mark, is_wide}
 use Rattle.file_mistakes.specs.Mistakes.Laws.{mistake-2, mistake-3, mistake-4, mistake-5}
 use Rattle.file_mistakes.proofs.mistake_of.Statement.{statement}
 use Rattle.file_mistakes.proofs.mistake_of.Tie as tie
 
 -- a test that did not hold
-unmarked : (c : tie.Else1) → let a = c.before.before.args in isOrderMark a.a a.b a.c ≡ false
+unmarked : (c : tie.Else1) → let a = c.before.before.args in is_order_mark a.a a.b a.c ≡ false
 unmarked c = sym c.before.is-order-mark.ensures ∙ c.if1.false
 
 narrow : (c : tie.Else2) → let a = c.before.before.before.before.args in is_wide a.a a.b ≡ false

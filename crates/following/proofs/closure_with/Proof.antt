@@ -8,14 +8,14 @@ use native.Mathlib.Omega.{arith}
 use lib.Bits.{bit_and, bit_or, or_lt}
 use Rattle.theory.specs.Implications.{Implication}
 use Rattle.attribute_set.specs.Sets.Laws.{sub→and, and→sub, sub-le, or_right, le-or}
-use Rattle.implication.specs.Closure.{implication, inForce, closure}
+use Rattle.implication.specs.Closure.{implication, in_force, closure}
 use Rattle.implication.specs.Closure.Laws.{closure-least, one-more-end, one-more-again}
 use Rattle.following.proofs.closure_with.Statement.{statement}
 use Rattle.following.proofs.closure_with.Tie as tie
 
 abbrev invariant-loop : tie.invariant-loop
 invariant-loop background list count premise conclusion set s₀ s =
-    let rs = inForce background list count ++ (implication premise conclusion ∷ []) in
+    let rs = in_force background list count ++ (implication premise conclusion ∷ []) in
     (s < 2 ^ 64) × (closure rs s ≡ closure rs set)
 
 abbrev decreases-loop : tie.decreases-loop
@@ -24,7 +24,7 @@ decreases-loop background list count premise conclusion set s₀ s = 2 ^ 64 - s
 abbrev rules : tie.After-closure-of invariant-loop decreases-loop → List (Implication ℕ)
 rules c =
     let a = c.before.before.before.before.args in
-    inForce a.background.now a.list.now a.count
+    in_force a.background.now a.list.now a.count
 
 abbrev more : tie.After-closure-of invariant-loop decreases-loop → Implication ℕ
 more c =

@@ -9,7 +9,7 @@ use Rattle.session.specs.Refusals.{refusal}
 use Rattle.table_layout.specs.Layout.{layout, opened_of}
 use Rattle.table_layout.specs.declared.Layout.{Layout}
 use Rattle.table_layout.specs.declared.Opened.{Opened}
-use Rattle.found_layout.specs.Found.{fields_of, same_numbers, sameLayout, foundIn, finds, openedAs}
+use Rattle.found_layout.specs.Found.{fields_of, same_numbers, equal_layouts, found_in, finds, opened_as}
 
 same-numbers : (ms ns : List ℕ) → same_numbers ms ns ≡ true → ms ≡ ns
 same-numbers [] [] e = refl
@@ -24,7 +24,7 @@ numbers-same [] = refl
 numbers-same (n ∷ ns) = rw (eq-eqb n n refl) (numbers-same ns)
 
 -- a layout is its numbers
-same_layout : (a b : Layout) → sameLayout a b ≡ true → a ≡ b
+same_layout : (a b : Layout) → equal_layouts a b ≡ true → a ≡ b
 same_layout a b e = ap from (same-numbers (fields_of a) (fields_of b) e)
   where
     from : List ℕ → Layout
@@ -34,28 +34,28 @@ module _ (file : List ℕ) (l : Layout) where
   pub finds-table : (finds file l ≡ true) ↔ (opened_of file ≡ Found l)
   finds-table = (found (opened_of file), λ e. rw e (numbers-same (fields_of l)))
     where
-      found : (o : Opened) → foundIn o l ≡ true → o ≡ Found l
+      found : (o : Opened) → found_in o l ≡ true → o ≡ Found l
       found (Found x) e = rw (same_layout x l e)
       found (Refused r) e = absurd (false≢true e)
 
 -- ---- an opened table
 
 module _ (l : Layout) where
-  pub as_same : (x : Layout) → sameLayout x l ≡ true → openedAs l (Found x) ≡ Found x
-  as_same x e = rw (openedAs, e)
+  pub as_same : (x : Layout) → equal_layouts x l ≡ true → opened_as l (Found x) ≡ Found x
+  as_same x e = rw (opened_as, e)
 
-  pub as-other : (x : Layout) → sameLayout x l ≡ false → openedAs l (Found x) ≡ Refused (refusal 3 0)
-  as-other x e = rw (openedAs, e)
+  pub as-other : (x : Layout) → equal_layouts x l ≡ false → opened_as l (Found x) ≡ Refused (refusal 3 0)
+  as-other x e = rw (opened_as, e)
 
   -- a layout found is the file's
-  pub as-layout : (o : Opened) (x : Layout) → openedAs l o ≡ Found x → o ≡ Found x
-  as-layout (Found y) x e = go (sameLayout y l) e
+  pub as-layout : (o : Opened) (x : Layout) → opened_as l o ≡ Found x → o ≡ Found x
+  as-layout (Found y) x e = go (equal_layouts y l) e
     where
       go : (b : Bool) → elim b as (λ z. Opened) [ true ↦ Found y | false ↦ Refused (refusal 3 0) ] ≡ Found x → Found y ≡ Found x
       go true f = f
       go false f = let n : ◌≡◌ {A = ℕ} 0 1 = cc in absurd (omega arith)
   as-layout (Refused r) x e = e
 
-  pub as-found : (o : Opened) → foundIn o l ≡ true → openedAs l o ≡ o
+  pub as-found : (o : Opened) → found_in o l ≡ true → opened_as l o ≡ o
   as-found (Found x) e = as_same x e
   as-found (Refused r) e = refl

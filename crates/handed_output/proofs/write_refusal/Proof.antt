@@ -1,5 +1,5 @@
 -- What the call wrote lies in the buffer, and is handed over whole.
-use Rattle.closing_lines.specs.Closing.{refusalLine}
+use Rattle.closing_lines.specs.Closing.{refusal_line}
 use Rattle.handed_output.specs.Handing.Laws.{hands-text}
 use borrow.Author.Rules.{rules}
 use Rattle.handed_output.proofs.write_refusal.Statement.{statement}
@@ -17,7 +17,7 @@ returns c =
     let d = written c in
     let w = d.put-refusal in
     let a = (start d).args in
-    (w.ensures, hands-text a.before c.hand-over.result a.out.now _ w.result (refusalLine a.refusal) w.ensures c.hand-over.ensures)
+    (w.ensures, hands-text a.before c.hand-over.result a.out.now _ w.result (refusal_line a.refusal) w.ensures c.hand-over.ensures)
 
 pub write-refusal-spec : {M : Type 1} → statement M
 write-refusal-spec =

@@ -6,13 +6,13 @@ use Rattle.text.specs.Page.{Page, page, text}
 use Rattle.text.specs.Page.Laws.{text-inside, text-length, text_at, text-fits}
 use Rattle.handed_output.specs.declared.Handed.{Handed}
 use Rattle.handed_output.specs.declared.Told.{Told}
-use Rattle.handed_output.specs.Handing.{untold, mostCounted, HandsOver, Hands, WritesIn}
+use Rattle.handed_output.specs.Handing.{untold, most_counted, HandsOver, Hands, WritesIn}
 
 pub hands_none : (h : Handed) → Hands h 0 h
 hands_none h = record { all = λ e. omega arith; within = omega arith }
 
 -- the part from the offset that was reached to a later one
-pub hands_on : (h m r : Handed) (at end size : ℕ) → at ≤ end → end ≤ size → h.bytes + size ≤ mostCounted → Hands h at m → HandsOver size at end m r
+pub hands_on : (h m r : Handed) (at end size : ℕ) → at ≤ end → end ≤ size → h.bytes + size ≤ most_counted → Hands h at m → HandsOver size at end m r
     → Hands h end r
 hands_on h m r at end size le in_size fits before part = go m.whole refl
   where
@@ -41,7 +41,7 @@ text-kept out out' r bs e = ap (λ (p : Page). length p.bytes) e ∙ text-length
 
 -- what was written from the start of the buffer, handed over in one part
 pub hands-text : (h r : Handed) (out out' : List ℕ) (end : ℕ) (bs : List ℕ) → page out' end ≡ text (page out 0) bs → HandsOver (length out') 0 end h r
-    → h.bytes + length out ≤ mostCounted → Hands h end r
+    → h.bytes + length out ≤ most_counted → Hands h end r
 hands-text h r out out' end bs e part fits =
     hands_on h h r 0 end (length out') (omega arith) (text-shown out out' end bs e).1 (omega (arith, text-kept out out' end bs e, fits)) (hands_none h) part
 
@@ -55,8 +55,8 @@ text-whole out out' r bs e h =
     ap (λ (k : ℕ). take k out') at ∙ ap (λ (p : Page). take (0 + length bs) p.bytes) e ∙ text-fits (page out 0) bs (omega (arith, h))
 
 pub writes-whole : (out out' : List ℕ) (r : Told) (bs : List ℕ) → page out' r.end ≡ text (page out 0) bs
-    → (untold.bytes + length out ≤ mostCounted → Hands untold r.end r.handed)
-    → length bs ≤ length out → length out ≤ mostCounted → WritesIn out out' r bs
+    → (untold.bytes + length out ≤ most_counted → Hands untold r.end r.handed)
+    → length bs ≤ length out → length out ≤ most_counted → WritesIn out out' r bs
 writes-whole out out' r bs e hands fits counted = record {
   put = e;
   written = text-whole out out' r.end bs e fits;

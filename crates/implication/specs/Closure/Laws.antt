@@ -20,7 +20,7 @@ use Rattle.attribute_set.specs.Sets.{Sub, inside, full}
 use Rattle.attribute_set.specs.Sets.Laws.{sub_refl, sub_trans, sub-antisym, inside-sub, sub-inside, outside-sub, or_left, or_right, or-least, or-inside, le-or, none-sub}
 use Rattle.attribute_set.specs.Words.{words}
 use Rattle.implication.specs.Pairs.Laws.{pairs-whole}
-use Rattle.implication.specs.Closure.{implication, implicationsOf, inForce, fire, pass, close, closure, follows}
+use Rattle.implication.specs.Closure.{implication, implications_of, in_force, fire, pass, close, closure, follows}
 
 -- ---- one implication
 
@@ -241,11 +241,11 @@ closure-idle rs ts h s =
 
 -- what is counted past the whole pairs of a list changes no closure
 pub closure-whole : (background list : List ℕ) (n s : ℕ)
-    → closure (inForce background list n) s ≡ closure (inForce background list (min n (length list / 2))) s
+    → closure (in_force background list n) s ≡ closure (in_force background list (min n (length list / 2))) s
 closure-whole background list n s =
     let t = pairs-whole implication (λ r. r.conclusion ≡ 0) (λ a. refl) n list in
-    let bs = implicationsOf (length background / 2) background in
-    let xs = implicationsOf (min n (length list / 2)) list in
+    let bs = implications_of (length background / 2) background in
+    let xs = implications_of (min n (length list / 2)) list in
     ap (λ l. closure (bs ++ l) s) t.1 ∙ ap (λ l. closure l s) (sym (append_assoc bs xs t.0)) ∙ closure-idle (bs ++ xs) t.0 t.2 s
 
 -- what lies between a set and its closure has the same closure

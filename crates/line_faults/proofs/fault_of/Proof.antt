@@ -1,14 +1,14 @@
 -- Each kind's line has the kind's fault.
 use mathlib.Core.Path.{ap, ◌∙◌}
 use borrow.Author.Rules.{rules}
-use Rattle.line_tests.specs.Tests.{refuseUnless}
+use Rattle.line_tests.specs.Tests.{refuse_unless}
 use Rattle.line_faults.specs.Faults.{fault}
 use Rattle.line_faults.proofs.fault_of.Statement.{statement}
 use Rattle.line_faults.proofs.fault_of.Tie as tie
 
 returns : tie.Need-returns
 unfolding fault
-returns c = rw c.before.before.enum_told.given.1 (c.refuse-unless.ensures ∙ ap (λ t. refuseUnless t 22) c.before.is-letter.ensures)
+returns c = rw c.before.before.enum_told.given.1 (c.refuse-unless.ensures ∙ ap (λ t. refuse_unless t 22) c.before.is-letter.ensures)
 
 returns-2 : tie.Need-returns-2
 unfolding fault
@@ -28,11 +28,11 @@ returns-5 c = rw c.before.enum-told5.given.1 c.refuse-unless3.ensures
 
 returns-6 : tie.Need-returns-6
 unfolding fault
-returns-6 c = rw c.before.before.enum-told6.given.1 (c.refuse-unless4.ensures ∙ ap (λ t. refuseUnless t 26) c.before.is_name.ensures)
+returns-6 c = rw c.before.before.enum-told6.given.1 (c.refuse-unless4.ensures ∙ ap (λ t. refuse_unless t 26) c.before.is_name.ensures)
 
 returns-7 : tie.Need-returns-7
 unfolding fault
-returns-7 c = rw c.before.before.before.kind.given.1 (c.refuse-unless5.ensures ∙ ap (λ t. refuseUnless t 27) c.before.is-marks.ensures)
+returns-7 c = rw c.before.before.before.kind.given.1 (c.refuse-unless5.ensures ∙ ap (λ t. refuse_unless t 27) c.before.is-marks.ensures)
 
 pub fault-of-spec : {M : Type 1} → statement M
 fault-of-spec =

@@ -6,14 +6,14 @@ use native.Mathlib.Omega.{arith}
 use borrow.Author.Rules.{rules}
 use lib.ListN.{length}
 use Rattle.table_lines.specs.Lines.Laws.{after-inside, after-moves}
-use Rattle.line_numbers.specs.Numbers.{endedBefore, numberOfLine}
+use Rattle.line_numbers.specs.Numbers.{ended_before, number_of_line}
 use Rattle.line_numbers.specs.Numbers.Laws.{ended-past, ended_here, ended-next}
 use Rattle.line_numbers.proofs.line_number.Statement.{statement}
 use Rattle.line_numbers.proofs.line_number.Tie as tie
 
 abbrev invariant-loop : tie.invariant-loop
 invariant-loop file place number₀ at₀ number at =
-    (at ≤ length file) × (number ≤ at + 1) × (number + endedBefore (length file) file place at ≡ numberOfLine file place)
+    (at ≤ length file) × (number ≤ at + 1) × (number + ended_before (length file) file place at ≡ number_of_line file place)
 
 abbrev decreases-loop : tie.decreases-loop
 decreases-loop file place number₀ at₀ number at = length file - at
@@ -56,7 +56,7 @@ loop-again c =
     let t = c.before.before in
     let e = c.before.next-at.ensures in
     let n = ended-next (file t) (place t) (at t) (omega arith) (omega (arith, e)) in
-    let m = ap (endedBefore (length (file t)) (file t) (place t)) e in
+    let m = ap (ended_before (length (file t)) (file t) (place t)) e in
     ((next c.before).1, omega (arith, next c.before), omega arith)
 
 returns-2 : tie.Need-returns-2 invariant-loop decreases-loop

@@ -11,7 +11,7 @@ use Rattle.table_lines.specs.Lines.Laws.{bytes_inside, after-inside}
 use Rattle.session.specs.Refusals.{refusal}
 use Rattle.line_walk.specs.declared.Walk.TheVariants.{Failed, At}
 use Rattle.line_faults.specs.Faults.{fault}
-use Rattle.line_walk.specs.Walk.{lineFault, walk}
+use Rattle.line_walk.specs.Walk.{line_fault, walk}
 use Rattle.table_kinds.specs.Kinds.Laws.{absent-some}
 use Rattle.line_walk.specs.Walk.Laws.{fault-there, fault-missing, walk-passed, walk-failed}
 use Rattle.line_walk.proofs.walk_line.Statement.{statement}
@@ -37,7 +37,7 @@ inside c =
 -- and the number found is the line's
 found : (c : tie.After-fault-of)
     → let a = (start (there c)).args in
-    c.fault-of.result ≡ lineFault a.kind a.file.now a.at
+    c.fault-of.result ≡ line_fault a.kind a.file.now a.at
 found c =
     let a = (start (there c)).args in
     let s = (there c).line_at.result.size in

@@ -1,27 +1,27 @@
 -- What a call promises, from what the plain machine does: from the whole turn and the words (`performs`, `turns`), and said in other
 -- terms (`said`, `said-turn`). A call whose answer says no change leaves state and words as they were (`unchanged`, `rows-unchanged`,
 -- `list-unchanged`), so that the record it was given serves as the record after it (`kept-made`, `chosen-made`). A
--- refusal leaves the words (`rows-kept`, `list-kept`).
+-- refusal leaves the words (`rows_kept`, `list_kept`).
 use Rattle.std.specs.Prelude.{◌≡◌, refl, Bool, true, false, List, ℕ, length}
 use Rattle.std.proofs.Common.{sym, ap, ◌∙◌, true≢false}
 use Rattle.session.specs.declared.Session.{Session}
 use Rattle.session.specs.declared.Refusal.{Refusal}
 use Rattle.session.specs.Choice.{chosen}
-use Rattle.context.specs.Filling.{joined, objectAt}
+use Rattle.context.specs.Filling.{joined, object_at}
 use Rattle.machine.specs.Checks.{State, question}
 use Rattle.machine.specs.Machine.{Call, step, accept, reject, follow, refute, test, file, fill, Answer, finished, moved, asked, taken, followed, refuted, unrefuted, refuting, refused, Turn, turn, performed, perform}
 use Rattle.machine.specs.Machine.Laws.{perform-cases, step-cases}
-use Rattle.machine.specs.Calls.{state_of, put_pair, rows_by, listBy, rowsAfter, listAfter, changes, MadeFrom, TurnedFrom}
+use Rattle.machine.specs.Calls.{state_of, put_pair, rows_by, list_by, rows_after, list_after, changes, MadeFrom, TurnedFrom}
 
 module _ {c : Call} {s after : Session} {rows list background rows' list' : List ℕ} where
   pub performs : {a : Answer} → perform (state_of s rows list background) c ≡ turn a (state_of after rows' list' background)
-      → rows' ≡ rows_by c a (state_of s rows list background) rows → list' ≡ listBy c a (state_of s rows list background) list
+      → rows' ≡ rows_by c a (state_of s rows list background) rows → list' ≡ list_by c a (state_of s rows list background) list
       → MadeFrom (λ x. x) c s rows list background a after rows' list'
   performs e p q = record {
     answer = sym (ap (λ (t : Turn). t.answer) e);
     state = sym (ap (λ (t : Turn). t.after) e);
     rows_written = p ∙ sym (ap (λ (t : Turn). rows_by c t.answer (state_of s rows list background) rows) e);
-    list_written = q ∙ sym (ap (λ (t : Turn). listBy c t.answer (state_of s rows list background) list) e);
+    list_written = q ∙ sym (ap (λ (t : Turn). list_by c t.answer (state_of s rows list background) list) e);
   }
 
   pub said : {X : Type 0} (says : Answer → X) {x : X} {a : Answer} → x ≡ says a → MadeFrom (λ y. y) c s rows list background a after rows' list'
@@ -40,7 +40,7 @@ module _ {c : Call} {s after : Session} {rows list background rows' list' : List
 module _ {c d : Call} {s after : Session} {rows list background rows' list' : List ℕ} {a : Answer} {changed : Bool} where
   pub as_call : perform (state_of s rows list background) d ≡ perform (state_of s rows list background) c
       → ((x : Answer) → rows_by d x (state_of s rows list background) rows ≡ rows_by c x (state_of s rows list background) rows)
-      → ((x : Answer) → listBy d x (state_of s rows list background) list ≡ listBy c x (state_of s rows list background) list)
+      → ((x : Answer) → list_by d x (state_of s rows list background) list ≡ list_by c x (state_of s rows list background) list)
       → TurnedFrom (λ x. x) c s rows list background a after rows' list' changed → TurnedFrom (λ x. x) d s rows list background a after rows' list' changed
   as_call e r l t =
       let g = state_of s rows list background in
@@ -50,7 +50,7 @@ module _ {c d : Call} {s after : Session} {rows list background rows' list' : Li
           answer = m.answer ∙ sym (ap (λ (x : Turn). x.answer) e);
           state = m.state ∙ sym (ap (λ (x : Turn). x.after) e);
           rows_written = m.rows_written ∙ sym (r (perform g c).answer) ∙ sym (ap (λ (x : Turn). rows_by d x.answer g rows) e);
-          list_written = m.list_written ∙ sym (l (perform g c).answer) ∙ sym (ap (λ (x : Turn). listBy d x.answer g list) e);
+          list_written = m.list_written ∙ sym (l (perform g c).answer) ∙ sym (ap (λ (x : Turn). list_by d x.answer g list) e);
         };
         change = t.change ∙ sym (ap (λ (x : Turn). changes x.answer) e);
       }
@@ -82,18 +82,18 @@ put-kept unrefuted k x y ws h = refl
 put-kept refuting k x y ws h = refl
 put-kept (refused r) k x y ws h = refl
 
-pub rows-unchanged : (s : State) (c : Call) (ws : List ℕ) → changes (perform s c).answer ≡ false → rowsAfter c s ws ≡ ws
+pub rows-unchanged : (s : State) (c : Call) (ws : List ℕ) → changes (perform s c).answer ≡ false → rows_after c s ws ≡ ws
 rows-unchanged s step ws h = refl
 rows-unchanged s accept ws h = refl
-rows-unchanged s (reject o) ws h = put-kept (perform s (reject o)).answer (length s.rows) o.yes-marks o.no-marks ws h
+rows-unchanged s (reject o) ws h = put-kept (perform s (reject o)).answer (length s.rows) o.yes_marks o.no_marks ws h
 rows-unchanged s (follow r) ws h = refl
 rows-unchanged s (refute r) ws h = refl
 rows-unchanged s (test o) ws h = refl
-rows-unchanged s (file o) ws h = put-kept (perform s (file o)).answer (length s.rows) o.yes-marks o.no-marks ws h
+rows-unchanged s (file o) ws h = put-kept (perform s (file o)).answer (length s.rows) o.yes_marks o.no_marks ws h
 rows-unchanged s (fill k m) ws h =
-    put-kept (perform s (fill k m)).answer k (joined (objectAt s.rows k) m).yes-marks (joined (objectAt s.rows k) m).no-marks ws h
+    put-kept (perform s (fill k m)).answer k (joined (object_at s.rows k) m).yes_marks (joined (object_at s.rows k) m).no_marks ws h
 
-pub list-unchanged : (s : State) (c : Call) (ws : List ℕ) → changes (perform s c).answer ≡ false → listAfter c s ws ≡ ws
+pub list-unchanged : (s : State) (c : Call) (ws : List ℕ) → changes (perform s c).answer ≡ false → list_after c s ws ≡ ws
 list-unchanged s step ws h = refl
 list-unchanged s accept ws h = put-kept (perform s accept).answer (length s.list) (question s).premise (question s).conclusion ws h
 list-unchanged s (reject o) ws h = refl
@@ -123,22 +123,22 @@ module _ {X : Type 0} {says : Answer → X} {c : Call} {s after : Session} {rows
       go false e = kept-made t.made (sym t.change ∙ e)
 
 -- a refusal leaves the words
-pub rows-kept : (c : Call) (r : Refusal) (s : State) (ws : List ℕ) → rows_by c (refused r) s ws ≡ ws
-rows-kept step r s ws = refl
-rows-kept accept r s ws = refl
-rows-kept (reject o) r s ws = refl
-rows-kept (follow q) r s ws = refl
-rows-kept (refute q) r s ws = refl
-rows-kept (test o) r s ws = refl
-rows-kept (file o) r s ws = refl
-rows-kept (fill k m) r s ws = refl
+pub rows_kept : (c : Call) (r : Refusal) (s : State) (ws : List ℕ) → rows_by c (refused r) s ws ≡ ws
+rows_kept step r s ws = refl
+rows_kept accept r s ws = refl
+rows_kept (reject o) r s ws = refl
+rows_kept (follow q) r s ws = refl
+rows_kept (refute q) r s ws = refl
+rows_kept (test o) r s ws = refl
+rows_kept (file o) r s ws = refl
+rows_kept (fill k m) r s ws = refl
 
-pub list-kept : (c : Call) (r : Refusal) (s : State) (ws : List ℕ) → listBy c (refused r) s ws ≡ ws
-list-kept step r s ws = refl
-list-kept accept r s ws = refl
-list-kept (reject o) r s ws = refl
-list-kept (follow q) r s ws = refl
-list-kept (refute q) r s ws = refl
-list-kept (test o) r s ws = refl
-list-kept (file o) r s ws = refl
-list-kept (fill k m) r s ws = refl
+pub list_kept : (c : Call) (r : Refusal) (s : State) (ws : List ℕ) → list_by c (refused r) s ws ≡ ws
+list_kept step r s ws = refl
+list_kept accept r s ws = refl
+list_kept (reject o) r s ws = refl
+list_kept (follow q) r s ws = refl
+list_kept (refute q) r s ws = refl
+list_kept (test o) r s ws = refl
+list_kept (file o) r s ws = refl
+list_kept (fill k m) r s ws = refl

@@ -7,10 +7,10 @@ use Prim.Native.Nat.{ℕ, ◌≤◌}
 use native.Mathlib.Omega.{arith}
 use borrow.Author.Rules.{rules}
 use Rattle.theory.specs.Implications.{Implication}
-use Rattle.implication.specs.Closure.{inForce}
+use Rattle.implication.specs.Closure.{in_force}
 use Rattle.context.specs.Places.{lowest, anywhere}
-use Rattle.context.specs.Objects.{Object, object, objectsOf, markedTwice, contradicts}
-use Rattle.machine.specs.Checks.{State, sessionChecks}
+use Rattle.context.specs.Objects.{Object, object, objects_of, marked_twice, contradicts}
+use Rattle.machine.specs.Checks.{State, session_checks}
 use Rattle.machine.specs.Checks.Laws.{none-failing}
 use Rattle.machine.specs.Calls.{state_of}
 use Rattle.context.specs.Places.Search.{anywhere-at, anywhere-none}
@@ -32,19 +32,19 @@ state c = let a = (start c).args in state_of a.session a.rows.now a.list.now a.b
 
 -- the rules in force
 abbrev rules : tie.After-first-contradiction → List (Implication ℕ)
-rules c = let a = (start c).args in inForce a.background.now a.list.now a.session.rules
+rules c = let a = (start c).args in in_force a.background.now a.list.now a.session.rules
 
 -- the rows in use
 abbrev used : tie.After-first-contradiction → List Object
-used c = let a = (start c).args in objectsOf a.session.rows a.rows.now
+used c = let a = (start c).args in objects_of a.session.rows a.rows.now
 
 -- what the first search gives: the empty implication changes nothing
 row-lowest : (c : tie.After-first-contradiction) → c.first-contradiction.result ≡ lowest (contradicts (rules c)) (used c)
 row-lowest c = c.first-contradiction.ensures ∙ lowest-idle (rules c) (used c)
 
 -- where no place is the lowest, no row marks an attribute both ways
-no-double : (c : tie.After-first-contradiction) → (start c).args.session.rows ≤ lowest markedTwice (used c) → anywhere markedTwice (used c) ≡ false
-no-double c = let a = (start c).args in anywhere-none markedTwice object a.rows.now a.session.rows
+no-double : (c : tie.After-first-contradiction) → (start c).args.session.rows ≤ lowest marked_twice (used c) → anywhere marked_twice (used c) ≡ false
+no-double c = let a = (start c).args in anywhere-none marked_twice object a.rows.now a.session.rows
 
 -- what the second gives, among the rows that the slice has whole
 abbrev first : tie.After-smaller → tie.After-first-contradiction
@@ -64,14 +64,14 @@ abbrev sized : tie.After-first-double → tie.After-first-contradiction
 sized c = first c.before
 
 double-lowest : (c : tie.After-first-double)
-    → c.first-double.result ≡ lowest markedTwice (objectsOf (had c.before) (start (sized c)).args.rows.now)
+    → c.first-double.result ≡ lowest marked_twice (objects_of (had c.before) (start (sized c)).args.rows.now)
 double-lowest c =
     let d = sized c in
     let a = (start d).args in
     double-found (rules d) a.session.rows a.rows.now (row-lowest d) (omega arith) c.before.smaller.ensures c.first-double.ensures
 
 returns : tie.Need-returns
-unfolding sessionChecks
+unfolding session_checks
 returns c asked =
     let d = c.before in
     let a = (start d).args in
@@ -91,7 +91,7 @@ returns-2 c asked =
     let is = double-whole (rules (sized d)) a.session.rows a.rows.now (omega (arith, double-lowest d, d.before.smaller.ensures)) in
     c.refused.ensures ∙ ap (failed 5) (double-lowest d ∙ sym is)
     ∙ sym (five (state (sized d)) asked
-    (anywhere-at markedTwice object a.rows.now a.session.rows (omega (arith, is, double-lowest d, d.before.smaller.ensures))))
+    (anywhere-at marked_twice object a.rows.now a.session.rows (omega (arith, is, double-lowest d, d.before.smaller.ensures))))
 
 returns-3 : tie.Need-returns-3
 returns-3 c asked =

@@ -14,7 +14,7 @@ use Rattle.table_lines.specs.Lines.{bytes_at, after}
 use Rattle.context.specs.Objects.{Object}
 use Rattle.line_walk.specs.Walk.{walk}
 use Rattle.table_walk.specs.Walk.{Passes}
-use Rattle.table_rows.specs.Rows.{rowOf, rows_from}
+use Rattle.table_rows.specs.Rows.{row_of, rows_from}
 use Rattle.mark_reading.specs.Marks.{flat}
 use Rattle.table_walk.specs.Walk.Passed.{NextLine, next-line}
 
@@ -57,8 +57,8 @@ module _ (part : List ℕ) (count n : ℕ) (before : List ℕ) where
       next = next-line part count n at i h r.passes
 
       -- its row is stored
-      pub reads_on : count * 2 ≤ length before → (o : Object) → o ≡ rowOf (bytes_at part at)
-          → Reads part count n before (set (set words (i * 2) o.yes-marks) (i * 2 + 1) o.no-marks) (after part at) (i + 1)
+      pub reads_on : count * 2 ≤ length before → (o : Object) → o ≡ row_of (bytes_at part at)
+          → Reads part count n before (set (set words (i * 2) o.yes_marks) (i * 2 + 1) o.no_marks) (after part at) (i + 1)
       unfolding rows_from flat
       reads_on fits o e =
           let m : suc (count - (i + 1)) ≡ count - i = omega arith in
@@ -67,12 +67,12 @@ module _ (part : List ℕ) (count n : ℕ) (before : List ℕ) where
             done = omega arith;
             room = simp length-set r.room;
             passes = next.passes;
-            filled = ap (λ (t : List ℕ). t ++ flat left) (take-stored words i o.yes-marks o.no-marks (omega arith))
-                ∙ append_assoc (take (i * 2) words) (o.yes-marks ∷ o.no-marks ∷ []) (flat left)
+            filled = ap (λ (t : List ℕ). t ++ flat left) (take-stored words i o.yes_marks o.no_marks (omega arith))
+                ∙ append_assoc (take (i * 2) words) (o.yes_marks ∷ o.no_marks ∷ []) (flat left)
                 ∙ ap (λ (x : Object). take (i * 2) words ++ flat (x ∷ left)) e
                 ∙ ap (λ (k : ℕ). take (i * 2) words ++ flat (rows_from k part at)) m
                 ∙ r.filled;
-            past = drop-stored words before i o.yes-marks o.no-marks r.past;
+            past = drop-stored words before i o.yes_marks o.no_marks r.past;
           }
 
     -- no line is left

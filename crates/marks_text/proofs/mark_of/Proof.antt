@@ -2,19 +2,19 @@
 use mathlib.Core.Path.{◌≡◌, refl}
 use Prim.Native.Nat.{ℕ, zero, suc}
 use borrow.Author.Rules.{rules}
-use Rattle.marks_text.specs.Marks.{markOf}
+use Rattle.marks_text.specs.Marks.{mark_of}
 use Rattle.marks_text.proofs.mark_of.Statement.{statement}
 use Rattle.marks_text.proofs.mark_of.Tie as tie
 
-marked-yes : (y m : ℕ) → (y ≡ 0 → ⊥) → 88 ≡ markOf y m
+marked-yes : (y m : ℕ) → (y ≡ 0 → ⊥) → 88 ≡ mark_of y m
 marked-yes zero m h = absurd (h refl)
 marked-yes (suc y) m h = refl
 
-marked-no : (y m : ℕ) → y ≡ 0 → (m ≡ 0 → ⊥) → 46 ≡ markOf y m
+marked-no : (y m : ℕ) → y ≡ 0 → (m ≡ 0 → ⊥) → 46 ≡ mark_of y m
 marked-no y zero e h = absurd (h refl)
 marked-no y (suc m) e h = rw e
 
-unmarked : (y m : ℕ) → y ≡ 0 → m ≡ 0 → 63 ≡ markOf y m
+unmarked : (y m : ℕ) → y ≡ 0 → m ≡ 0 → 63 ≡ mark_of y m
 unmarked y m e f = rw (e, f)
 
 returns : tie.Need-returns

@@ -7,26 +7,26 @@ use native.Mathlib.Omega.{arith}
 use native.Mathlib.Nat.{sub-zero}
 use Rattle.text.specs.Page.{page, text}
 use Rattle.text.specs.Page.Laws.{text-step, text-end, same_size}
-use Rattle.marks_text.specs.Marks.{markOf, marksText}
+use Rattle.marks_text.specs.Marks.{mark_of, marks_text}
 use Rattle.marks_text.proofs.put_marks.Statement.{statement}
 use Rattle.marks_text.proofs.put_marks.Tie as tie
 
 -- the mark of the attribute at i, then those after it
-marks-at : (n i y m : ℕ) → i < n → marksText (n - i) y m ≡ markOf (y % 2) (m % 2) ∷ marksText (n - (i + 1)) (y / 2) (m / 2)
-unfolding marksText
+marks-at : (n i y m : ℕ) → i < n → marks_text (n - i) y m ≡ mark_of (y % 2) (m % 2) ∷ marks_text (n - (i + 1)) (y / 2) (m / 2)
+unfolding marks_text
 marks-at n i y m h =
     let e : n - i ≡ suc (n - (i + 1)) = omega arith in
     rw e
 
 -- no mark is left
-marks-end : (n i y m : ℕ) → n ≤ i → marksText (n - i) y m ≡ []
-unfolding marksText
+marks-end : (n i y m : ℕ) → n ≤ i → marks_text (n - i) y m ≡ []
+unfolding marks_text
 marks-end n i y m h =
     let e : n - i ≡ 0 = omega arith in
     rw e
 
 abbrev invariant-loop : tie.invariant-loop
-invariant-loop out₀ at n yes₀ no₀ to₀ y₀ m₀ i₀ out to y m i = text (page out to) (marksText (n - i) y m) ≡ text (page out₀ at) (marksText n yes₀ no₀)
+invariant-loop out₀ at n yes₀ no₀ to₀ y₀ m₀ i₀ out to y m i = text (page out to) (marks_text (n - i) y m) ≡ text (page out₀ at) (marks_text n yes₀ no₀)
 
 abbrev decreases-loop : tie.decreases-loop
 decreases-loop out₀ at n yes₀ no₀ to₀ y₀ m₀ i₀ out to y m i = n - i
@@ -50,7 +50,7 @@ loop-again c =
     let a = (start (turn (put c))).args in
     let p = page l.out l.to in
     let m = (put c).before.mark_of.ensures in
-    text-step p (markOf (l.left-yes % 2) (l.left-no % 2)) (marksText (a.n - (l.i + 1)) (l.left-yes / 2) (l.left-no / 2))
+    text-step p (mark_of (l.left-yes % 2) (l.left-no % 2)) (marks_text (a.n - (l.i + 1)) (l.left-yes / 2) (l.left-no / 2))
     ((put c).put_byte.ensures ∙ ap (λ (b : ℕ). text p (b ∷ [])) m)
     ∙ ap (text p) (sym (marks-at a.n l.i l.left-yes l.left-no (search rules))) ∙ l.inv
 

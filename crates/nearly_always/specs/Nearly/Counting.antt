@@ -2,7 +2,7 @@
 -- pass does to them.
 use Rattle.std.specs.Prelude.{◌≡◌, Bool, true, false, List, ◌∷◌, ℕ, ◌+◌, ◌*◌, ◌/◌, ◌^◌, ◌≤◌, ◌<◌, length, get_or, ltb}
 use Rattle.std.specs.Int.Bits.{bit_or}
-use Rattle.session.specs.Limits.{mostObjects}
+use Rattle.session.specs.Limits.{most_objects}
 use Rattle.attribute_set.specs.Sets.{digit}
 use Rattle.context.specs.Objects.{Object, object}
 use Rattle.nearly_always.specs.Nearly.{support}
@@ -13,7 +13,7 @@ pub record Zero (n : ℕ) (counts : List ℕ) : Type 0 where
   pub at : (j : ℕ) → j < n → get_or counts j 0 ≡ 0
 
 pub record Small (n : ℕ) (counts : List ℕ) : Type 0 where
-  pub at : (j : ℕ) → j < n → get_or counts j 0 ≤ mostObjects
+  pub at : (j : ℕ) → j < n → get_or counts j 0 ≤ most_objects
 
 -- one more for each attribute of a row
 pub record Adds (n yes : ℕ) (before after : List ℕ) : Type 0 where
@@ -29,13 +29,13 @@ pub record Adding (yes j left : ℕ) (before now : List ℕ) : Type 0 where
 
 -- the rows with the premise are counted, and those of them with each attribute
 pub record Counted (n : ℕ) (os : List Object) (premise total : ℕ) (counts : List ℕ) : Type 0 where
-  pub with-premise : total ≡ support premise os
-  pub with-attribute : (j : ℕ) → j < n → get_or counts j 0 ≡ support (bit_or premise (2 ^ j)) os
+  pub with_premise : total ≡ support premise os
+  pub one_attribute : (j : ℕ) → j < n → get_or counts j 0 ≡ support (bit_or premise (2 ^ j)) os
 
 -- so it is but for the rest of the rows
 pub record CountedBut (n : ℕ) (rest os : List Object) (premise total : ℕ) (counts : List ℕ) : Type 0 where
-  pub with-premise : total + support premise rest ≡ support premise os
-  pub with-attribute : (j : ℕ) → j < n → get_or counts j 0 + support (bit_or premise (2 ^ j)) rest ≡ support (bit_or premise (2 ^ j)) os
+  pub with_premise : total + support premise rest ≡ support premise os
+  pub one_attribute : (j : ℕ) → j < n → get_or counts j 0 + support (bit_or premise (2 ^ j)) rest ≡ support (bit_or premise (2 ^ j)) os
 
 -- a row with these yes marks is counted, whatever it marks no
 pub record CountsRow (n premise yes total : ℕ) (before : List ℕ) (total' : ℕ) (after : List ℕ) : Type 0 where
@@ -45,9 +45,9 @@ pub record CountsRow (n premise yes total : ℕ) (before : List ℕ) (total' : �
 -- ---- counts that exceed
 
 -- the definition's test, by the counts
-abbrev pub exceedsBy : ℕ → ℕ → List ℕ → ℕ → Bool
-exceedsBy percent total counts j = ltb (percent * total) (100 * get_or counts j 0)
+abbrev pub exceeds_by : ℕ → ℕ → List ℕ → ℕ → Bool
+exceeds_by percent total counts j = ltb (percent * total) (100 * get_or counts j 0)
 
 -- a set of attributes below j, with j where its count exceeds
-abbrev pub joinedBy : ℕ → ℕ → ℕ → ℕ → ℕ → ℕ
-joinedBy percent total counted j set = elim (ltb (percent * total) (100 * counted)) [ true ↦ 2 ^ j + set | false ↦ set ]
+abbrev pub joined_by : ℕ → ℕ → ℕ → ℕ → ℕ → ℕ
+joined_by percent total counted j set = elim (ltb (percent * total) (100 * counted)) [ true ↦ 2 ^ j + set | false ↦ set ]

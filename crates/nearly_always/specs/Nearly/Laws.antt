@@ -12,11 +12,11 @@ use Rattle.nearly_always.specs.Nearly.{having, support}
 -- ---- rows that have a set
 
 module _ (s : ℕ) (o : Object) (os : List Object) where
-  pub support-has : inside s o.yes-marks ≡ true → support s (o ∷ os) ≡ suc (support s os)
+  pub support-has : inside s o.yes_marks ≡ true → support s (o ∷ os) ≡ suc (support s os)
   unfolding having
   support-has e = rw (e, having)
 
-  pub support-lacks : inside s o.yes-marks ≡ false → support s (o ∷ os) ≡ support s os
+  pub support-lacks : inside s o.yes_marks ≡ false → support s (o ∷ os) ≡ support s os
   unfolding having
   support-lacks e = rw (e, having)
 
@@ -27,9 +27,9 @@ support-none s = refl
 pub support-most : (s : ℕ) (os : List Object) → support s os ≤ length os
 unfolding having
 support-most s [] = omega arith
-support-most s (o ∷ os) = go (inside s o.yes-marks) refl (support-most s os)
+support-most s (o ∷ os) = go (inside s o.yes_marks) refl (support-most s os)
   where
-    go : (b : Bool) → inside s o.yes-marks ≡ b → support s os ≤ length os → support s (o ∷ os) ≤ suc (length os)
+    go : (b : Bool) → inside s o.yes_marks ≡ b → support s os ≤ length os → support s (o ∷ os) ≤ suc (length os)
     go true e h = omega (arith, support-has s o os e, h)
     go false e h = omega (arith, support-lacks s o os e, h)
 
@@ -47,25 +47,25 @@ module _ (premise j y : ℕ) where
 
 -- of a row with the premise the mark decides; a row without it has not both
 module _ (premise j : ℕ) (o : Object) (os : List Object) where
-  pub support-with : inside premise o.yes-marks ≡ true
-      → support (bit_or premise (2 ^ j)) (o ∷ os) ≡ digit o.yes-marks j + support (bit_or premise (2 ^ j)) os
-  support-with e = go (member-cases o.yes-marks j)
+  pub support-with : inside premise o.yes_marks ≡ true
+      → support (bit_or premise (2 ^ j)) (o ∷ os) ≡ digit o.yes_marks j + support (bit_or premise (2 ^ j)) os
+  support-with e = go (member-cases o.yes_marks j)
     where
-      go : (In j o.yes-marks) ⊎ (digit o.yes-marks j ≡ 0)
-          → support (bit_or premise (2 ^ j)) (o ∷ os) ≡ digit o.yes-marks j + support (bit_or premise (2 ^ j)) os
-      go (inl h) = omega (arith, h, support-has (bit_or premise (2 ^ j)) o os (with-both premise j o.yes-marks e h))
-      go (inr h) = omega (arith, h, support-lacks (bit_or premise (2 ^ j)) o os (without-attribute premise j o.yes-marks h))
+      go : (In j o.yes_marks) ⊎ (digit o.yes_marks j ≡ 0)
+          → support (bit_or premise (2 ^ j)) (o ∷ os) ≡ digit o.yes_marks j + support (bit_or premise (2 ^ j)) os
+      go (inl h) = omega (arith, h, support-has (bit_or premise (2 ^ j)) o os (with-both premise j o.yes_marks e h))
+      go (inr h) = omega (arith, h, support-lacks (bit_or premise (2 ^ j)) o os (without-attribute premise j o.yes_marks h))
 
-  pub support-without : inside premise o.yes-marks ≡ false
+  pub support-without : inside premise o.yes_marks ≡ false
       → support (bit_or premise (2 ^ j)) (o ∷ os) ≡ support (bit_or premise (2 ^ j)) os
-  support-without e = support-lacks (bit_or premise (2 ^ j)) o os (without-premise premise j o.yes-marks e)
+  support-without e = support-lacks (bit_or premise (2 ^ j)) o os (without-premise premise j o.yes_marks e)
 
 -- no more rows have both than have the premise
 pub support-fewer : (premise j : ℕ) (os : List Object) → support (bit_or premise (2 ^ j)) os ≤ support premise os
 support-fewer premise j [] = omega (arith, support-none premise, support-none (bit_or premise (2 ^ j)))
-support-fewer premise j (o ∷ os) = go (inside premise o.yes-marks) refl (support-fewer premise j os)
+support-fewer premise j (o ∷ os) = go (inside premise o.yes_marks) refl (support-fewer premise j os)
   where
-    go : (b : Bool) → inside premise o.yes-marks ≡ b → support (bit_or premise (2 ^ j)) os ≤ support premise os
+    go : (b : Bool) → inside premise o.yes_marks ≡ b → support (bit_or premise (2 ^ j)) os ≤ support premise os
         → support (bit_or premise (2 ^ j)) (o ∷ os) ≤ support premise (o ∷ os)
-    go true e h = omega (arith, support-with premise j o os e, support-has premise o os e, digit_lt o.yes-marks j, h)
+    go true e h = omega (arith, support-with premise j o os e, support-has premise o os e, digit_lt o.yes_marks j, h)
     go false e h = omega (arith, support-without premise j o os e, support-lacks premise o os e, h)

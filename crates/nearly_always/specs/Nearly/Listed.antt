@@ -9,12 +9,12 @@ use Rattle.context.specs.Objects.{Object}
 -- the second list has just those rows of the first whose yes marks contain a set, in their order
 pub data Picks (s : ℕ) : List Object → List Object → Type 0 where
   no_rows : Picks s [] []
-  picked : (o : Object) {os l : List Object} → Sub s o.yes-marks → Picks s os l → Picks s (o ∷ os) (o ∷ l)
-  left_out : (o : Object) {os l : List Object} → (Sub s o.yes-marks → ⊥) → Picks s os l → Picks s (o ∷ os) l
+  picked : (o : Object) {os l : List Object} → Sub s o.yes_marks → Picks s os l → Picks s (o ∷ os) (o ∷ l)
+  left_out : (o : Object) {os l : List Object} → (Sub s o.yes_marks → ⊥) → Picks s os l → Picks s (o ∷ os) l
 
 -- attribute p is one of the first n, outside the premise, and more than so many per cent of the rows with the premise have it
 pub record Nearly (n percent : ℕ) (os : List Object) (premise p : ℕ) : Type 0 where
-  pub of-M : p < n
+  pub of_M : p < n
   pub outside : In p premise → ⊥
   pub exceeding : (all both : List Object) → Picks premise os all → Picks (bit_or premise (2 ^ p)) os both → percent * length all < 100 * length both
 

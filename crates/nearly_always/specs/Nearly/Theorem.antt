@@ -12,7 +12,7 @@ use Rattle.attribute_set.specs.Sets.Laws.{digit-without, digit_lt, member-cases,
 use Rattle.attribute_set.specs.Passing.{passing}
 use Rattle.attribute_set.specs.Passing.Laws.{passing-in, passing-passes, passing-below}
 use Rattle.context.specs.Objects.{Object}
-use Rattle.nearly_always.specs.Nearly.{having, support, exceeds, nearlyAlways}
+use Rattle.nearly_always.specs.Nearly.{having, support, exceeds, nearly_always}
 use Rattle.nearly_always.specs.Nearly.Listed.{Picks, no_rows, picked, left_out, Lists}
 use Rattle.nearly_always.specs.Nearly.Laws.{support-fewer}
 
@@ -21,12 +21,12 @@ use Rattle.nearly_always.specs.Nearly.Laws.{support-fewer}
 pub picks : (s : ℕ) (os : List Object) → Picks s os (having s os)
 unfolding having
 picks s [] = no_rows
-picks s (o ∷ os) = go (inside s o.yes-marks) refl (picks s os)
+picks s (o ∷ os) = go (inside s o.yes_marks) refl (picks s os)
   where
-    go : (b : Bool) → inside s o.yes-marks ≡ b → Picks s os (having s os)
+    go : (b : Bool) → inside s o.yes_marks ≡ b → Picks s os (having s os)
         → Picks s (o ∷ os) (elim b [ true ↦ o ∷ having s os | false ↦ having s os ])
-    go true e p = picked o (inside-sub s o.yes-marks e) p
-    go false e p = left_out o (outside-sub s o.yes-marks e) p
+    go true e p = picked o (inside-sub s o.yes_marks e) p
+    go false e p = left_out o (outside-sub s o.yes_marks e) p
 
 -- no other list is one of these rows
 picks-having : (s : ℕ) {os l : List Object} → Picks s os l → l ≡ having s os
@@ -57,36 +57,36 @@ module _ (n percent : ℕ) (os : List Object) (premise : ℕ) where
   unfolding exceeds
   passes p h = lt-ltb _ _ h
 
-  outside-premise : (p : ℕ) → In p (nearlyAlways n percent os premise) → In p (passing (exceeds percent os premise) n) × (In p premise → ⊥)
-  unfolding nearlyAlways
+  outside-premise : (p : ℕ) → In p (nearly_always n percent os premise) → In p (passing (exceeds percent os premise) n) × (In p premise → ⊥)
+  unfolding nearly_always
   outside-premise p h =
       let w = digit-without (passing (exceeds percent os premise) n) premise p in
       (omega (arith, w, h, digit_lt (passing (exceeds percent os premise) n) p), λ m. omega (arith, w, h, m, digit_lt (passing (exceeds percent os premise) n) p))
 
-  inside-set : (p : ℕ) → In p (passing (exceeds percent os premise) n) → (In p premise → ⊥) → In p (nearlyAlways n percent os premise)
-  unfolding nearlyAlways
+  inside-set : (p : ℕ) → In p (passing (exceeds percent os premise) n) → (In p premise → ⊥) → In p (nearly_always n percent os premise)
+  unfolding nearly_always
   inside-set p h out =
       let w = digit-without (passing (exceeds percent os premise) n) premise p in
       ⊎_elim (λ m. absurd (out m)) (λ z. omega (arith, w, h, z)) (member-cases premise p)
 
-  pub listed : Lists n percent os premise (nearlyAlways n percent os premise)
+  pub listed : Lists n percent os premise (nearly_always n percent os premise)
   listed = record {
     only = λ p h.
         let m = outside-premise p h in
         let f = exceeds percent os premise in
         record {
-          of-M = passing-below f n p m.0;
+          of_M = passing-below f n p m.0;
           outside = m.1;
           exceeding = λ all both a b. rw (picks-having premise a, picks-having (bit_or premise (2 ^ p)) b) (test p (passing-passes f n p m.0));
         };
     every = λ p h.
-        inside-set p (passing-in (exceeds percent os premise) n p h.of-M
+        inside-set p (passing-in (exceeds percent os premise) n p h.of_M
         (passes p (h.exceeding (having premise os) (having (bit_or premise (2 ^ p)) os) (picks premise os) (picks (bit_or premise (2 ^ p)) os)))) h.outside;
   }
 
   -- the set is empty where no row has the premise
-  pub none-listed : Picks premise os [] → nearlyAlways n percent os premise ≡ 0
-  none-listed h = empty (nearlyAlways n percent os premise) λ p m.
+  pub none-listed : Picks premise os [] → nearly_always n percent os premise ≡ 0
+  none-listed h = empty (nearly_always n percent os premise) λ p m.
       let none : support premise os ≡ 0 = ap length (sym (picks-having premise h)) in
       let more = test p (passing-passes (exceeds percent os premise) n p (outside-premise p m).0) in
       absurd (omega (arith, more, support-fewer premise p os, none))

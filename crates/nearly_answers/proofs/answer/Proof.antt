@@ -3,11 +3,11 @@ use mathlib.Core.Path.{◌≡◌, sym, subst}
 use native.Mathlib.Omega.{arith}
 use lib.ListN.{length}
 use lib.Seq.{length-take-le}
-use Rattle.table_layout.specs.Layout.{inputMost}
+use Rattle.table_layout.specs.Layout.{input_most}
 use Rattle.handed_output.specs.Handing.{WritesIn}
 use Rattle.standard_streams.specs.Answers.Laws.{input-answered}
 use Rattle.standard_streams.specs.First.{first-bytes}
-use Rattle.nearly_output.specs.Output.{nearlyOutput}
+use Rattle.nearly_output.specs.Output.{nearly_output}
 use Rattle.nearly_output.specs.Output.Laws.{nearly-first}
 use borrow.Author.Rules.{rules}
 use Rattle.nearly_answers.proofs.answer.Statement.{statement}
@@ -17,7 +17,7 @@ abbrev start : tie.After-smaller → tie.Start
 start c = c.before.before
 
 -- the buffer's length
-sized : (c : tie.After-smaller) → length (start c).args.file.now ≡ inputMost
+sized : (c : tie.After-smaller) → length (start c).args.file.now ≡ input_most
 sized c = search rules
 
 slice-aggregate-list-file : tie.Need-slice-aggregate-list-file
@@ -28,8 +28,8 @@ returns c =
     let d = c.before.before.before in
     let a = (start d).args in
     let held = c.list-file.new.1.0 in
-    input-answered nearlyOutput inputMost nearly-first a.file.now a.out.now held a.size c.list-file.result (sized d)
-    (subst (λ bs. WritesIn a.out.now held c.list-file.result (nearlyOutput bs))
+    input-answered nearly_output input_most nearly-first a.file.now a.out.now held a.size c.list-file.result (sized d)
+    (subst (λ bs. WritesIn a.out.now held c.list-file.result (nearly_output bs))
     (first-bytes a.size d.smaller.result a.file.now (omega (arith, sized d, d.smaller.ensures))) c.list-file.ensures)
 
 pub answer-spec : {M : Type 1} → statement M

@@ -4,8 +4,8 @@ use native.Mathlib.Omega.{arith}
 use lib.ListN.{length}
 use lib.Seq.{length-take-le}
 use Rattle.text.specs.Page.{page, text}
-use Rattle.refusal_reports.specs.Reports.{explanationOf}
-use Rattle.table_layout.specs.Layout.{inputMost, opened_of}
+use Rattle.refusal_reports.specs.Reports.{explanation_of}
+use Rattle.table_layout.specs.Layout.{input_most, opened_of}
 use Rattle.standard_streams.specs.First.{first-bytes}
 use borrow.Author.Rules.{rules}
 use Rattle.nearly_answers.proofs.explain.Statement.{statement}
@@ -15,7 +15,7 @@ abbrev start : tie.After-smaller → tie.Start
 start c = c.before.before
 
 -- the buffer's length
-sized : (c : tie.After-smaller) → length (start c).args.file.now ≡ inputMost
+sized : (c : tie.After-smaller) → length (start c).args.file.now ≡ input_most
 sized c = search rules
 
 slice-aggregate-put-opened : tie.Need-slice-aggregate-put-opened
@@ -28,7 +28,7 @@ returns c =
     let d = c.before.before.before in
     let a = (start d).args in
     c.put-opened.ensures
-    ∙ ap (λ bs. text (page a.report.now 0) (explanationOf bs (opened_of bs))) (first-bytes a.size d.smaller.result a.file.now (omega (arith, sized d, d.smaller.ensures)))
+    ∙ ap (λ bs. text (page a.report.now 0) (explanation_of bs (opened_of bs))) (first-bytes a.size d.smaller.result a.file.now (omega (arith, sized d, d.smaller.ensures)))
 
 pub explain-spec : {M : Type 1} → statement M
 explain-spec = tie.close (tie.spec (λ c κs. search rules) slice-aggregate-put-opened (λ c κs. search rules) returns)

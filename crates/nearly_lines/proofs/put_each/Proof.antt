@@ -4,12 +4,12 @@ use mathlib.Core.List.{◌∷◌}
 use Prim.Native.Nat.{suc, ◌-◌, ◌^◌, ◌≤◌}
 use native.Mathlib.Omega.{arith}
 use borrow.Author.Rules.{rules}
-use Rattle.context.specs.Objects.{objectsOf}
-use Rattle.short_premises.specs.Premises.{pairsWith, premisesBelow, premises}
+use Rattle.context.specs.Objects.{objects_of}
+use Rattle.short_premises.specs.Premises.{pairs_with, premises_below, premises}
 use Rattle.short_premises.specs.Premises.Laws.{premises-step, premises-end}
 use Rattle.text.specs.Page.{page, text}
 use Rattle.text.specs.Page.Laws.{text-on, text-end, same_size}
-use Rattle.nearly_lines.specs.Lines.{nearlyLines}
+use Rattle.nearly_lines.specs.Lines.{nearly_lines}
 use Rattle.nearly_lines.specs.Lines.Laws.{lines-append, lines_none}
 use Rattle.nearly_lines.proofs.put_each.Statement.{statement}
 use Rattle.nearly_lines.proofs.put_each.Tie as tie
@@ -17,8 +17,8 @@ use Rattle.nearly_lines.proofs.put_each.Tie as tie
 abbrev invariant-loop : tie.invariant-loop
 invariant-loop out₀ at n used rows percent to₀ i₀ out to i =
     (i ≤ n)
-    × (text (page out to) (nearlyLines n percent (objectsOf used rows) (premisesBelow n i))
-    ≡ text (page out₀ at) (nearlyLines n percent (objectsOf used rows) (premises n)))
+    × (text (page out to) (nearly_lines n percent (objects_of used rows) (premises_below n i))
+    ≡ text (page out₀ at) (nearly_lines n percent (objects_of used rows) (premises n)))
 
 abbrev decreases-loop : tie.decreases-loop
 decreases-loop out₀ at n used rows percent to₀ i₀ out to i = i
@@ -41,17 +41,17 @@ loop-again c =
     let t = turn (put c) in
     let l = t.loop in
     let a = (start t).args in
-    let os = objectsOf a.used a.rows.now in
-    let lines = nearlyLines a.n a.percent os in
+    let os = objects_of a.used a.rows.now in
+    let lines = nearly_lines a.n a.percent os in
     let k = l.i - 1 in
     let last : l.i ≡ suc k = omega arith in
-    let here = 2 ^ k ∷ pairsWith k a.n in
-    let rest = premisesBelow a.n k in
+    let here = 2 ^ k ∷ pairs_with k a.n in
+    let rest = premises_below a.n k in
     let p = page l.out l.to in (
       omega arith,
       text-on p (lines here) (lines rest) (put c).put-with.ensures refl
           ∙ ap (text p) (lines-append a.n a.percent os here rest
-          ∙ ap lines (sym (ap (premisesBelow a.n) last ∙ premises-step a.n k)))
+          ∙ ap lines (sym (ap (premises_below a.n) last ∙ premises-step a.n k)))
           ∙ l.inv.1,
     )
 
@@ -63,8 +63,8 @@ returns c =
     let l = c.before.loop in
     let a = (start c.before).args in
     let zero : l.i ≡ 0 = omega arith in
-    let none = ap (premisesBelow a.n) zero ∙ premises-end a.n in
-    text-end (page l.out l.to) _ (lines_none a.n a.percent (objectsOf a.used a.rows.now) _ none) ∙ l.invariant.1
+    let none = ap (premises_below a.n) zero ∙ premises-end a.n in
+    text-end (page l.out l.to) _ (lines_none a.n a.percent (objects_of a.used a.rows.now) _ none) ∙ l.invariant.1
 
 pub put-each-spec : {M : Type 1} → statement M
 put-each-spec =

@@ -1,5 +1,5 @@
 -- `N `, the premise and what is listed with it, a line feed.
-use Rattle.context.specs.Objects.{objectsOf}
+use Rattle.context.specs.Objects.{objects_of}
 use Rattle.nearly_lines.specs.Lines.Laws.{lines-one}
 use borrow.Author.Rules.{rules}
 use Rattle.nearly_lines.proofs.put_line.Statement.{statement}
@@ -17,8 +17,8 @@ returns c =
     let put = c.before.before in
     let set = (listed put).nearly-always in
     let a = (start (listed put)).args in
-    let listing = set.ensures.in-range (start (listed put)).requires in
-    rw (lines-one a.n a.percent (objectsOf a.used a.rows.now) a.premise set.result listing) put.put-rule.ensures
+    let listing = set.ensures.in_range (start (listed put)).requires in
+    rw (lines-one a.n a.percent (objects_of a.used a.rows.now) a.premise set.result listing) put.put-rule.ensures
 
 pub put-line-spec : {M : Type 1} → statement M
 put-line-spec =

@@ -5,31 +5,31 @@ use Prim.Native.Nat.{ℕ, suc, ◌+◌, ◌-◌, ◌^◌, ◌%◌, ◌≤◌, �
 use native.Mathlib.Omega.{arith}
 use borrow.Author.Rules.{rules}
 use Rattle.attribute_set.specs.Lectic.{raise}
-use Rattle.context.specs.Objects.{objectsOf}
-use Rattle.short_premises.specs.Premises.{pairsWith}
+use Rattle.context.specs.Objects.{objects_of}
+use Rattle.short_premises.specs.Premises.{pairs_with}
 use Rattle.short_premises.specs.Premises.Laws.{pairs-step, pairs_end}
 use Rattle.text.specs.Page.{page, text}
 use Rattle.text.specs.Page.Laws.{text-on, text-end, same_size}
-use Rattle.nearly_lines.specs.Lines.{nearlyLines}
+use Rattle.nearly_lines.specs.Lines.{nearly_lines}
 use Rattle.nearly_lines.specs.Lines.Laws.{lines-first, lines_none, one-raised, pair-raised}
 use Rattle.nearly_lines.proofs.put_pairs.Statement.{statement}
 use Rattle.nearly_lines.proofs.put_pairs.Tie as tie
 
 -- the pair with the highest attribute comes first, as the code makes it
 pair-first : (i j single set : ℕ) → i + 1 < j → j ≤ 64 → single ≡ raise 0 i % 2 ^ 64 → set ≡ raise single (j - 1) % 2 ^ 64
-    → pairsWith i j ≡ set ∷ pairsWith i (j - 1)
+    → pairs_with i j ≡ set ∷ pairs_with i (j - 1)
 pair-first i j single set h l e f =
     let k = j - 1 in
     let last : j ≡ suc k = omega arith in
     let alone = e ∙ one-raised i (omega arith) in
     let both = f ∙ ap (λ (s : ℕ). raise s k % 2 ^ 64) alone ∙ pair-raised i k (omega arith) (omega arith) in
-    ap (pairsWith i) last ∙ pairs-step i k (omega arith) ∙ ap (λ (s : ℕ). s ∷ pairsWith i k) (sym both)
+    ap (pairs_with i) last ∙ pairs-step i k (omega arith) ∙ ap (λ (s : ℕ). s ∷ pairs_with i k) (sym both)
 
 abbrev invariant-loop : tie.invariant-loop
 invariant-loop out₀ at n used rows percent i single to₀ j₀ out to j =
     (j ≤ n)
-    × (text (page out to) (nearlyLines n percent (objectsOf used rows) (pairsWith i j))
-    ≡ text (page out₀ at) (nearlyLines n percent (objectsOf used rows) (pairsWith i n)))
+    × (text (page out to) (nearly_lines n percent (objects_of used rows) (pairs_with i j))
+    ≡ text (page out₀ at) (nearly_lines n percent (objects_of used rows) (pairs_with i n)))
 
 abbrev decreases-loop : tie.decreases-loop
 decreases-loop out₀ at n used rows percent i single to₀ j₀ out to j = j
@@ -53,10 +53,10 @@ loop-again c =
     let t = turn made in
     let l = t.loop in
     let a = (start t).args in
-    let os = objectsOf a.used a.rows.now in
-    let lines = nearlyLines a.n a.percent os in
+    let os = objects_of a.used a.rows.now in
+    let lines = nearly_lines a.n a.percent os in
     let set = made.raised2.result in
-    let rest = pairsWith a.i (l.j - 1) in
+    let rest = pairs_with a.i (l.j - 1) in
     let p = page l.out l.to in
     let first = pair-first a.i l.j t.before.raised.result set (omega arith) (omega arith) t.before.raised.ensures made.raised2.ensures in (
       omega arith,
@@ -73,7 +73,7 @@ returns c =
     let l = c.before.loop in
     let a = (start c.before).args in
     let none = pairs_end a.i l.j (omega arith) in
-    text-end (page l.out l.to) _ (lines_none a.n a.percent (objectsOf a.used a.rows.now) _ none) ∙ l.invariant.1
+    text-end (page l.out l.to) _ (lines_none a.n a.percent (objects_of a.used a.rows.now) _ none) ∙ l.invariant.1
 
 pub put-pairs-spec : {M : Type 1} → statement M
 put-pairs-spec =

@@ -4,11 +4,11 @@ use mathlib.Core.List.{[], ◌∷◌}
 use Prim.Native.Nat.{ℕ}
 use native.Mathlib.Omega.{arith}
 use borrow.Author.Rules.{rules}
-use Rattle.context.specs.Objects.{objectsOf}
-use Rattle.short_premises.specs.Premises.{pairsWith}
+use Rattle.context.specs.Objects.{objects_of}
+use Rattle.short_premises.specs.Premises.{pairs_with}
 use Rattle.text.specs.Page.{page, text}
 use Rattle.text.specs.Page.Laws.{text-on}
-use Rattle.nearly_lines.specs.Lines.{nearlyLines}
+use Rattle.nearly_lines.specs.Lines.{nearly_lines}
 use Rattle.nearly_lines.specs.Lines.Laws.{lines-first, one-raised}
 use Rattle.nearly_lines.proofs.put_with.Statement.{statement}
 use Rattle.nearly_lines.proofs.put_with.Tie as tie
@@ -26,10 +26,10 @@ returns c =
     let first = alone second in
     let made = first.before in
     let a = (start made).args in
-    let os = objectsOf a.used a.rows.now in
-    let lines = nearlyLines a.n a.percent os in
+    let os = objects_of a.used a.rows.now in
+    let lines = nearly_lines a.n a.percent os in
     let set = made.raised.result in
-    let pairs = pairsWith a.i a.n in
+    let pairs = pairs_with a.i a.n in
     let p = page a.out.now a.at in
     text-on p (lines (set ∷ [])) (lines pairs) first.put-line.ensures second.put-pairs.ensures
     ∙ ap (text p) (lines-first a.n a.percent os set pairs)

@@ -13,60 +13,60 @@ use Rattle.attribute_set.specs.Lectic.{raise}
 use Rattle.attribute_set.specs.Lectic.Laws.{raise-lt, single-raise}
 use Rattle.implication.specs.Closure.{implication}
 use Rattle.context.specs.Objects.{Object}
-use Rattle.text.specs.Text.{setText}
-use Rattle.output_lines.specs.Lines.{ruleText}
+use Rattle.text.specs.Text.{set_text}
+use Rattle.output_lines.specs.Lines.{rule_text}
 use Rattle.output_lines.specs.Lines.Laws.{rule-length}
-use Rattle.nearly_always.specs.Nearly.{having, exceeds, nearlyAlways}
+use Rattle.nearly_always.specs.Nearly.{having, exceeds, nearly_always}
 use Rattle.nearly_always.specs.Nearly.Cases.{table}
-use Rattle.nearly_lines.specs.Lines.{nearlyLine, nearlyLines}
+use Rattle.nearly_lines.specs.Lines.{nearly_line, nearly_lines}
 
 record Cases : Type 0 where
   -- `N ..X .X.`
-  one : nearlyLine 3 (implication 4 2) ≡ 78 ∷ 32 ∷ 46 ∷ 46 ∷ 88 ∷ 32 ∷ 46 ∷ 88 ∷ 46 ∷ 10 ∷ []
+  one : nearly_line 3 (implication 4 2) ≡ 78 ∷ 32 ∷ 46 ∷ 46 ∷ 88 ∷ 32 ∷ 46 ∷ 88 ∷ 46 ∷ 10 ∷ []
   -- `N ..X .X.`, `N.X. ...`, of document 01's table
-  two : nearlyLines 3 80 table (4 ∷ 2 ∷ []) ≡
+  two : nearly_lines 3 80 table (4 ∷ 2 ∷ []) ≡
       78 ∷ 32 ∷ 46 ∷ 46 ∷ 88 ∷ 32 ∷ 46 ∷ 88 ∷ 46 ∷ 10 ∷ 78 ∷ 32 ∷ 46 ∷ 88 ∷ 46 ∷ 32 ∷ 46 ∷ 46 ∷ 46 ∷ 10 ∷ []
 
 cases : Cases
-unfolding nearlyLines nearlyAlways passing exceeds having inside without setText
+unfolding nearly_lines nearly_always passing exceeds having inside without set_text
 cases = record { one = refl; two = refl }
 
 -- ---- premise after premise
 
 module _ (n percent : ℕ) (os : List Object) where
   -- the line of one premise, with the set that is listed
-  pub lines-one : (s t : ℕ) → t ≡ nearlyAlways n percent os s → nearlyLines n percent os (s ∷ []) ≡ nearlyLine n (implication s t)
-  unfolding nearlyLines
-  lines-one s t e = rw e (append-nil (nearlyLine n (implication s (nearlyAlways n percent os s))))
+  pub lines-one : (s t : ℕ) → t ≡ nearly_always n percent os s → nearly_lines n percent os (s ∷ []) ≡ nearly_line n (implication s t)
+  unfolding nearly_lines
+  lines-one s t e = rw e (append-nil (nearly_line n (implication s (nearly_always n percent os s))))
 
-  pub lines-append : (ss ts : List ℕ) → nearlyLines n percent os ss ++ nearlyLines n percent os ts ≡ nearlyLines n percent os (ss ++ ts)
-  unfolding nearlyLines
+  pub lines-append : (ss ts : List ℕ) → nearly_lines n percent os ss ++ nearly_lines n percent os ts ≡ nearly_lines n percent os (ss ++ ts)
+  unfolding nearly_lines
   lines-append [] ts = refl
   lines-append (s ∷ ss) ts =
-      let line = nearlyLine n (implication s (nearlyAlways n percent os s)) in
-      append_assoc line (nearlyLines n percent os ss) (nearlyLines n percent os ts) ∙ ap (λ l. line ++ l) (lines-append ss ts)
+      let line = nearly_line n (implication s (nearly_always n percent os s)) in
+      append_assoc line (nearly_lines n percent os ss) (nearly_lines n percent os ts) ∙ ap (λ l. line ++ l) (lines-append ss ts)
 
   -- the line of the first premise, then those of the rest
-  pub lines-first : (s : ℕ) (ss : List ℕ) → nearlyLines n percent os (s ∷ []) ++ nearlyLines n percent os ss ≡ nearlyLines n percent os (s ∷ ss)
+  pub lines-first : (s : ℕ) (ss : List ℕ) → nearly_lines n percent os (s ∷ []) ++ nearly_lines n percent os ss ≡ nearly_lines n percent os (s ∷ ss)
   lines-first s ss = lines-append (s ∷ []) ss
 
   -- no premise is left
-  pub lines_none : (ss : List ℕ) → ss ≡ [] → nearlyLines n percent os ss ≡ []
-  unfolding nearlyLines
+  pub lines_none : (ss : List ℕ) → ss ≡ [] → nearly_lines n percent os ss ≡ []
+  unfolding nearly_lines
   lines_none ss e = rw e
 
 -- ---- how long the lines are
 
-pub line-size : (n : ℕ) (r : Implication ℕ) → length (nearlyLine n r) ≡ n * 2 + 4
-line-size n r = rw (length-append (ruleText n r), rule-length n r) (omega arith)
+pub line-size : (n : ℕ) (r : Implication ℕ) → length (nearly_line n r) ≡ n * 2 + 4
+line-size n r = rw (length-append (rule_text n r), rule-length n r) (omega arith)
 
-pub lines-size : (n percent : ℕ) (os : List Object) (ss : List ℕ) → length (nearlyLines n percent os ss) ≡ length ss * (n * 2 + 4)
-unfolding nearlyLines
+pub lines-size : (n percent : ℕ) (os : List Object) (ss : List ℕ) → length (nearly_lines n percent os ss) ≡ length ss * (n * 2 + 4)
+unfolding nearly_lines
 lines-size n percent os [] = omega arith
 lines-size n percent os (s ∷ ss) =
-    let line = nearlyLine n (implication s (nearlyAlways n percent os s)) in
-    length-append line (nearlyLines n percent os ss)
-    ∙ omega (arith, line-size n (implication s (nearlyAlways n percent os s)), lines-size n percent os ss, suc-mul (length ss) (n * 2 + 4))
+    let line = nearly_line n (implication s (nearly_always n percent os s)) in
+    length-append line (nearly_lines n percent os ss)
+    ∙ omega (arith, line-size n (implication s (nearly_always n percent os s)), lines-size n percent os ss, suc-mul (length ss) (n * 2 + 4))
 
 -- ---- the premises in a word
 

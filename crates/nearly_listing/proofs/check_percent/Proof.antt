@@ -4,20 +4,20 @@ use mathlib.Core.List.{[]}
 use borrow.Author.Rules.{rules}
 use borrow.Author.Tests.{lt-ltb, le-ltb}
 use Rattle.machine.specs.Checks.Laws.{failing-nothing, failing-here, failing-later}
-use Rattle.nearly_always.specs.Nearly.{mostPercent}
-use Rattle.nearly_listing.specs.Listing.{percentCheck}
+use Rattle.nearly_always.specs.Nearly.{most_percent}
+use Rattle.nearly_listing.specs.Listing.{percent_check}
 use Rattle.nearly_listing.proofs.check_percent.Statement.{statement}
 use Rattle.nearly_listing.proofs.check_percent.Tie as tie
 
 returns : tie.Need-returns
 returns c =
     let percent = c.before.before.args.percent in
-    c.refused.ensures ∙ sym (failing-here (percentCheck percent) [] (lt-ltb mostPercent percent c.before.if1.true))
+    c.refused.ensures ∙ sym (failing-here (percent_check percent) [] (lt-ltb most_percent percent c.before.if1.true))
 
 returns-2 : tie.Need-returns-2
 returns-2 c =
     let percent = c.before.args.percent in
-    sym (failing-later (percentCheck percent) [] (le-ltb mostPercent percent c.if1.false) ∙ failing-nothing)
+    sym (failing-later (percent_check percent) [] (le-ltb most_percent percent c.if1.false) ∙ failing-nothing)
 
 pub check-percent-spec : {M : Type 1} → statement M
 check-percent-spec = tie.close (tie.spec (λ c κs. search rules) returns returns-2)

@@ -5,21 +5,21 @@ use mathlib.Core.Option.{none}
 use Prim.Native.Nat.{ℕ}
 use lib.ListN.{length}
 use borrow.Author.Rules.{rules}
-use Rattle.context.specs.Objects.{objectsOf}
-use Rattle.machine.specs.Checks.{firstFailing}
-use Rattle.size_checks.specs.Verdicts.{verdictOf}
+use Rattle.context.specs.Objects.{objects_of}
+use Rattle.machine.specs.Checks.{first_failing}
+use Rattle.size_checks.specs.Verdicts.{verdict_of}
 use Rattle.session_checks.specs.Checked.{first_of}
-use Rattle.nearly_always.specs.Nearly.{nearlyAlways, InRange}
+use Rattle.nearly_always.specs.Nearly.{nearly_always, InRange}
 use Rattle.nearly_listing.specs.declared.Nearly.TheVariants.{Listed}
-use Rattle.nearly_listing.specs.Listing.{listChecks, listedBy, listing}
-use Rattle.nearly_listing.specs.Listing.Laws.{list-checked, in-range}
+use Rattle.nearly_listing.specs.Listing.{list_checks, listed_by, listing}
+use Rattle.nearly_listing.specs.Listing.Laws.{list-checked, in_range}
 use Rattle.nearly_listing.proofs.list_nearly.Statement.{statement}
 use Rattle.nearly_listing.proofs.list_nearly.Tie as tie
 
 -- where the checks pass, the numbers are in range, so that a set which is then the definition's is what is answered
-listed : (n used : ℕ) (words : List ℕ) (premise percent : ℕ) {set : ℕ} → firstFailing (listChecks n used words premise percent) ≡ none
-    → (InRange n used (length words) percent → set ≡ nearlyAlways n percent (objectsOf used words) premise) → Listed set ≡ listing n used words premise percent
-listed n used words premise percent e right = rw (e, right (in-range n used words premise percent e))
+listed : (n used : ℕ) (words : List ℕ) (premise percent : ℕ) {set : ℕ} → first_failing (list_checks n used words premise percent) ≡ none
+    → (InRange n used (length words) percent → set ≡ nearly_always n percent (objects_of used words) premise) → Listed set ≡ listing n used words premise percent
+listed n used words premise percent e right = rw (e, right (in_range n used words premise percent e))
 
 -- the places: the start, and the verdict where the checks pass
 abbrev start : tie.After-earlier → tie.Start
@@ -31,7 +31,7 @@ verdict c = c.before.before
 -- the verdict of all checks
 decided : (c : tie.After-earlier)
     → let a = (start c).args in
-    firstFailing (listChecks a.n a.used a.rows.now a.premise a.percent) ≡ verdictOf c.earlier.result
+    first_failing (list_checks a.n a.used a.rows.now a.premise a.percent) ≡ verdict_of c.earlier.result
 decided c =
     let a = (start c).args in
     let within = c.before in
@@ -40,21 +40,21 @@ decided c =
 
 passing : (c : tie.After-enum-told)
     → let a = (start (verdict c)).args in
-    firstFailing (listChecks a.n a.used a.rows.now a.premise a.percent) ≡ none
-passing c = decided (verdict c) ∙ ap verdictOf c.enum_told.given.1
+    first_failing (list_checks a.n a.used a.rows.now a.premise a.percent) ≡ none
+passing c = decided (verdict c) ∙ ap verdict_of c.enum_told.given.1
 
 returns : tie.Need-returns
 returns c =
     let d = c.before.before.before in
     let a = (start d).args in
-    let set = nearlyAlways a.n a.percent (objectsOf a.used a.rows.now) a.premise in
-    sym (ap (λ o. listedBy o set) (decided d ∙ ap verdictOf c.before.checked.given.1))
+    let set = nearly_always a.n a.percent (objects_of a.used a.rows.now) a.premise in
+    sym (ap (λ o. listed_by o set) (decided d ∙ ap verdict_of c.before.checked.given.1))
 
 returns-2 : tie.Need-returns-2
 returns-2 c =
     let t = c.before in
     let a = (start (verdict t)).args in
-    listed a.n a.used a.rows.now a.premise a.percent (passing t) c.nearly-always.ensures.in-range
+    listed a.n a.used a.rows.now a.premise a.percent (passing t) c.nearly-always.ensures.in_range
 
 pub list-nearly-spec : {M : Type 1} → statement M
 list-nearly-spec =

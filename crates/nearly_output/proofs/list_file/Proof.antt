@@ -3,9 +3,9 @@ use mathlib.Core.Path.{refl, sym, ap, ◌∙◌}
 use mathlib.Core.List.{List}
 use Prim.Native.Nat.{ℕ, ◌*◌}
 use lib.ListN.{replicate, length-replicate}
-use Rattle.session.specs.Limits.{mostObjects}
+use Rattle.session.specs.Limits.{most_objects}
 use Rattle.short_premises.specs.Premises.{premises}
-use Rattle.nearly_lines.specs.Lines.{nearlyLines}
+use Rattle.nearly_lines.specs.Lines.{nearly_lines}
 use Rattle.nearly_output.specs.Output.{percentage}
 use Rattle.nearly_output.specs.Output.Laws.{Read, table-read, read-range, output-written}
 use borrow.Author.Rules.{rules}
@@ -14,7 +14,7 @@ use Rattle.nearly_output.proofs.list_file.Tie as tie
 
 -- the words before the reading, all 0
 abbrev row_words : List ℕ
-row_words = replicate (mostObjects * 2) 0
+row_words = replicate (most_objects * 2) 0
 
 -- the places: the start; behind the reading, as the match takes it
 abbrev start : tie.After-read-marks → tie.Start
@@ -30,7 +30,7 @@ read c = c.before
 reads : (c : tie.After-read-marks) → Read (start c).args.file.now c.read-marks.new.1.0 c.read-marks.result
 reads c =
     let called = c.read-marks in
-    table-read (start c).args.file.now row_words called.new.1.0 called.result (length-replicate {A = ℕ} (mostObjects * 2) 0)
+    table-read (start c).args.file.now row_words called.new.1.0 called.result (length-replicate {A = ℕ} (most_objects * 2) 0)
     called.ensures.0 called.ensures.1
 
 write-lines-requires : tie.Need-write-lines-requires
@@ -56,7 +56,7 @@ returns-2 c =
     let w = c.write-lines in
     let l = d.opened2.given.0.0 in
     output-written a.file.now a.out.now w.new.1.1.1.0 w.result _ _ (sym d.opened2.given.1 ∙ (reads r).answer)
-    (ap (λ os. nearlyLines l.attributes percentage os (premises l.attributes)) ((reads r).rows l d.opened2.given.1)) w.ensures
+    (ap (λ os. nearly_lines l.attributes percentage os (premises l.attributes)) ((reads r).rows l d.opened2.given.1)) w.ensures
     c.before.write-lines-arg.given.0.1
 
 pub list-file-spec : {M : Type 1} → statement M

@@ -14,7 +14,7 @@ use Rattle.attribute_set.specs.Lectic.{Before, below, raise}
 use Rattle.attribute_set.specs.Lectic.Laws.{agree_at, agree_of, proper-before, sub-before, raise-low, raise-at, raise-high, raise-lt}
 use Rattle.attribute_set.specs.Words.{words}
 use Rattle.implication.specs.Closure.Laws.{closure-least, closure-inside, full-closed}
-use Rattle.next_set.specs.Next.{candidate, fits, nextBelow, next, IsNext}
+use Rattle.next_set.specs.Next.{candidate, fits, next_below, next, IsNext}
 
 both_true : (a b : Bool) → (a && b) ≡ true → (a ≡ true) × (b ≡ true)
 both_true true b e = (refl, e)
@@ -37,19 +37,19 @@ module _ (rs : List (Implication ℕ)) (x j : ℕ) where
   unfolding fits
   fit-fits f = rw (eq-eqb _ _ f.lacks, eq-eqb _ _ f.same)
 
-  next-cases : (P : ℕ → Type 0) → (Fit rs x j → P (candidate rs x j)) → ((Fit rs x j → ⊥) → P (nextBelow rs x j)) → P (nextBelow rs x (suc j))
-  unfolding nextBelow
+  next-cases : (P : ℕ → Type 0) → (Fit rs x j → P (candidate rs x j)) → ((Fit rs x j → ⊥) → P (next_below rs x j)) → P (next_below rs x (suc j))
+  unfolding next_below
   next-cases P found passed = go (fits rs x j) refl
     where
-      go : (b : Bool) → fits rs x j ≡ b → P (elim b [ true ↦ candidate rs x j | false ↦ nextBelow rs x j ])
+      go : (b : Bool) → fits rs x j ≡ b → P (elim b [ true ↦ candidate rs x j | false ↦ next_below rs x j ])
       go true e = found (fits-fit e)
       go false e = passed (λ f. true≢false (sym (fit-fits f) ∙ e))
 
-  pub next-found : Fit rs x j → nextBelow rs x (suc j) ≡ candidate rs x j
+  pub next-found : Fit rs x j → next_below rs x (suc j) ≡ candidate rs x j
   next-found f = next-cases (λ r. r ≡ candidate rs x j) (λ g. refl) (λ h. absurd (h f))
 
-  pub next-passed : (Fit rs x j → ⊥) → nextBelow rs x (suc j) ≡ nextBelow rs x j
-  next-passed h = next-cases (λ r. r ≡ nextBelow rs x j) (λ g. absurd (h g)) (λ g. refl)
+  pub next-passed : (Fit rs x j → ⊥) → next_below rs x (suc j) ≡ next_below rs x j
+  next-passed h = next-cases (λ r. r ≡ next_below rs x j) (λ g. absurd (h g)) (λ g. refl)
 
 -- ---- what the search finds
 
@@ -62,7 +62,7 @@ record Largest (rs : List (Implication ℕ)) (x n r : ℕ) : Type 0 where
   pub largest : (k : ℕ) → at < k → k < n → Fit rs x k → ⊥
 
 module _ (rs : List (Implication ℕ)) (x : ℕ) where
-  searched : (n : ℕ) → Largest rs x n (nextBelow rs x n) ⊎ ((k : ℕ) → k < n → Fit rs x k → ⊥)
+  searched : (n : ℕ) → Largest rs x n (next_below rs x n) ⊎ ((k : ℕ) → k < n → Fit rs x k → ⊥)
   searched zero = inr (λ k h f. absurd (omega arith))
   searched (suc n) = next-cases rs x n (λ r. Largest rs x (suc n) r ⊎ ((k : ℕ) → k < suc n → Fit rs x k → ⊥))
       (λ f. inl (record { at = n; small = le_refl (suc n); fit = f; is = refl; largest = λ k a b g. absurd (omega arith) }))

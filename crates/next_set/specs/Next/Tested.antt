@@ -11,7 +11,7 @@ use Rattle.attribute_set.specs.Lectic.Laws.{agree_at, agree_of, raise-low, raise
 use Rattle.implication.specs.Closure.Laws.{closure-least}
 use Rattle.implication.specs.Until.{CloseUntil}
 use Rattle.implication.specs.Until.Laws.{misses}
-use Rattle.next_set.specs.Next.{candidate, nextBelow}
+use Rattle.next_set.specs.Next.{candidate, next_below}
 use Rattle.next_set.specs.Next.Laws.{next-found, next-passed}
 
 module _ (x j c : ℕ) where
@@ -30,12 +30,12 @@ module _ (x j c : ℕ) where
 
 module _ (rs : List (Implication ℕ)) (x j : ℕ) {r : ℕ} (u : CloseUntil (candidate rs x j) (without (full j) x) r) where
   -- a candidate that meets none of them is the next closed set
-  pub next-taken : digit x j ≡ 0 → bit_and r (without (full j) x) ≡ 0 → nextBelow rs x (suc j) ≡ r
+  pub next-taken : digit x j ≡ 0 → bit_and r (without (full j) x) ≡ 0 → next_below rs x (suc j) ≡ r
   next-taken l e =
       let f = u.whole e in
       let same : below (candidate rs x j) j ≡ below x j = gains-none x j (candidate rs x j) (closure-least rs (raise x j)).above (rw f at e) in
       next-found rs x j (record { lacks = l; same = same }) ∙ sym f
 
   -- one that meets some of them is passed
-  pub next-left : (bit_and r (without (full j) x) ≡ 0 → ⊥) → nextBelow rs x (suc j) ≡ nextBelow rs x j
+  pub next-left : (bit_and r (without (full j) x) ≡ 0 → ⊥) → next_below rs x (suc j) ≡ next_below rs x j
   next-left n = next-passed rs x j (λ f. n (misses (without (full j) x) u.least (none-gained x j (candidate rs x j) f.same)))

@@ -2,10 +2,10 @@
 use mathlib.Core.Path.{◌≡◌, sym, ◌∙◌}
 use mathlib.Core.List.{List, [], ◌∷◌}
 use borrow.Author.Rules.{rules}
-use Rattle.implication.specs.Closure.{inForce}
+use Rattle.implication.specs.Closure.{in_force}
 use Rattle.context.specs.Objects.{Object, object, contradicts}
 use Rattle.context.specs.Filling.{joined, reverses}
-use Rattle.machine.specs.Checks.{Check, check, badRow, firstFailing}
+use Rattle.machine.specs.Checks.{Check, check, bad_row, first_failing}
 use Rattle.machine.specs.Checks.Laws.{failing-nothing, failing-here, failing-later}
 use Rattle.offered_rows.proofs.check_added_marks.Statement.{statement}
 use Rattle.offered_rows.proofs.check_added_marks.Tie as tie
@@ -20,16 +20,16 @@ abbrev offered : tie.Start → Object
 offered c = object c.args.yes c.args.no
 
 abbrev nine : tie.Start → Check
-nine c = check 9 (badRow c.args.n (offered c)) 0
+nine c = check 9 (bad_row c.args.n (offered c)) 0
 
-abbrev thirty-three : tie.Start → Check
-thirty-three c = check 33 (reverses (known c) (offered c)) 0
+abbrev thirty_three : tie.Start → Check
+thirty_three c = check 33 (reverses (known c) (offered c)) 0
 
 abbrev eleven : tie.Start → Check
-eleven c = let a = c.args in check 11 (contradicts (inForce a.background.now a.list.now a.rules) (joined (known c) (offered c))) 0
+eleven c = let a = c.args in check 11 (contradicts (in_force a.background.now a.list.now a.rules) (joined (known c) (offered c))) 0
 
 abbrev all : tie.Start → List Check
-all c = nine c ∷ thirty-three c ∷ eleven c ∷ []
+all c = nine c ∷ thirty_three c ∷ eleven c ∷ []
 
 returns : tie.Need-returns
 returns c =
@@ -37,10 +37,10 @@ returns c =
     c.refused.ensures ∙ sym (failing-here (nine (begun d.before)) _ (sym d.before.bad-row.ensures ∙ d.if1.true))
 
 -- check 9 passes, and 33 and 11 decide
-abbrev start-nine : tie.Else1 → tie.Start
-start-nine c = begun c.before
+abbrev start_nine : tie.Else1 → tie.Start
+start_nine c = begun c.before
 
-after-nine : (c : tie.Else1) → firstFailing (all (start-nine c)) ≡ firstFailing (thirty-three (start-nine c) ∷ eleven (start-nine c) ∷ [])
+after-nine : (c : tie.Else1) → first_failing (all (start_nine c)) ≡ first_failing (thirty_three (start_nine c) ∷ eleven (start_nine c) ∷ [])
 after-nine c = failing-later _ _ (sym c.before.bad-row.ensures ∙ c.if1.false)
 
 returns-2 : tie.Need-returns-2
@@ -49,14 +49,14 @@ returns-2 c =
     c.refused2.ensures ∙ sym (after-nine d.before.before ∙ failing-here _ _ (sym d.before.reverses-mark.ensures ∙ d.if2.true))
 
 -- check 33 passes, and 11 decides
-abbrev start-second : tie.Else2 → tie.Start
-start-second c = start-nine c.before.before
+abbrev start_second : tie.Else2 → tie.Start
+start_second c = start_nine c.before.before
 
-after-second : (c : tie.Else2) → firstFailing (all (start-second c)) ≡ firstFailing (eleven (start-second c) ∷ [])
+after-second : (c : tie.Else2) → first_failing (all (start_second c)) ≡ first_failing (eleven (start_second c) ∷ [])
 after-second c = after-nine c.before.before ∙ failing-later _ _ (sym c.before.reverses-mark.ensures ∙ c.if2.false)
 
 -- the test of check 11
-contradicting : (c : tie.After-row-contradicts) → (eleven (start-second c.before)).fails ≡ c.row-contradicts.result
+contradicting : (c : tie.After-row-contradicts) → (eleven (start_second c.before)).fails ≡ c.row-contradicts.result
 contradicting c = sym c.row-contradicts.ensures
 
 returns-3 : tie.Need-returns-3

@@ -2,9 +2,9 @@
 use mathlib.Core.Path.{◌≡◌, sym, ◌∙◌}
 use mathlib.Core.List.{[], ◌∷◌}
 use borrow.Author.Rules.{rules}
-use Rattle.implication.specs.Closure.{inForce}
+use Rattle.implication.specs.Closure.{in_force}
 use Rattle.context.specs.Objects.{Object, object, contradicts}
-use Rattle.machine.specs.Checks.{Check, check, badRow, firstFailing}
+use Rattle.machine.specs.Checks.{Check, check, bad_row, first_failing}
 use Rattle.machine.specs.Checks.Laws.{failing-nothing, failing-here, failing-later}
 use Rattle.offered_rows.proofs.check_filed_row.Statement.{statement}
 use Rattle.offered_rows.proofs.check_filed_row.Tie as tie
@@ -16,10 +16,10 @@ abbrev offered : tie.Start → Object
 offered c = object c.args.yes c.args.no
 
 abbrev nine : tie.Start → Check
-nine c = check 9 (badRow c.args.n (offered c)) 0
+nine c = check 9 (bad_row c.args.n (offered c)) 0
 
 abbrev eleven : tie.Start → Check
-eleven c = let a = c.args in check 11 (contradicts (inForce a.background.now a.list.now a.rules) (offered c)) 0
+eleven c = let a = c.args in check 11 (contradicts (in_force a.background.now a.list.now a.rules) (offered c)) 0
 
 returns : tie.Need-returns
 returns c =
@@ -28,14 +28,14 @@ returns c =
     c.refused.ensures ∙ sym (failing-here (nine s) (eleven s ∷ []) (sym d.before.bad-row.ensures ∙ d.if1.true))
 
 -- check 9 passes, and check 11 decides
-abbrev start-nine : tie.Else1 → tie.Start
-start-nine c = begun c.before
+abbrev start_nine : tie.Else1 → tie.Start
+start_nine c = begun c.before
 
-after-nine : (c : tie.Else1) → firstFailing (nine (start-nine c) ∷ eleven (start-nine c) ∷ []) ≡ firstFailing (eleven (start-nine c) ∷ [])
+after-nine : (c : tie.Else1) → first_failing (nine (start_nine c) ∷ eleven (start_nine c) ∷ []) ≡ first_failing (eleven (start_nine c) ∷ [])
 after-nine c = failing-later _ _ (sym c.before.bad-row.ensures ∙ c.if1.false)
 
 -- the test of check 11
-contradicting : (c : tie.After-row-contradicts) → (eleven (start-nine c.before)).fails ≡ c.row-contradicts.result
+contradicting : (c : tie.After-row-contradicts) → (eleven (start_nine c.before)).fails ≡ c.row-contradicts.result
 contradicting c = sym c.row-contradicts.ensures
 
 returns-2 : tie.Need-returns-2

@@ -3,9 +3,9 @@ use mathlib.Core.Path.{◌≡◌, sym, ap, ◌∙◌}
 use mathlib.Core.Bool.{not}
 use mathlib.Core.List.{[], ◌∷◌}
 use borrow.Author.Rules.{rules}
-use Rattle.implication.specs.Closure.{implication, inForce}
+use Rattle.implication.specs.Closure.{implication, in_force}
 use Rattle.context.specs.Objects.{Object, object, refutes}
-use Rattle.machine.specs.Checks.{Check, check, badRow, firstFailing}
+use Rattle.machine.specs.Checks.{Check, check, bad_row, first_failing}
 use Rattle.machine.specs.Checks.Laws.{failing-nothing, failing-here, failing-later}
 use Rattle.offered_rows.proofs.check_tested_row.Statement.{statement}
 use Rattle.offered_rows.proofs.check_tested_row.Tie as tie
@@ -17,12 +17,12 @@ abbrev offered : tie.Start → Object
 offered c = object c.args.yes c.args.no
 
 abbrev nine : tie.Start → Check
-nine c = check 9 (badRow c.args.n (offered c)) 0
+nine c = check 9 (bad_row c.args.n (offered c)) 0
 
 abbrev ten : tie.Start → Check
 ten c =
     let a = c.args in
-    check 10 (not (refutes (inForce a.background.now a.list.now a.rules) (offered c) (implication a.premise a.conclusion))) 0
+    check 10 (not (refutes (in_force a.background.now a.list.now a.rules) (offered c) (implication a.premise a.conclusion))) 0
 
 returns : tie.Need-returns
 returns c =
@@ -31,18 +31,18 @@ returns c =
     c.refused.ensures ∙ sym (failing-here (nine s) (ten s ∷ []) (sym d.before.bad-row.ensures ∙ d.if1.true))
 
 -- check 9 passes, and check 10 decides
-abbrev start-nine : tie.Else1 → tie.Start
-start-nine c = begun c.before
+abbrev start_nine : tie.Else1 → tie.Start
+start_nine c = begun c.before
 
-after-nine : (c : tie.Else1) → firstFailing (nine (start-nine c) ∷ ten (start-nine c) ∷ []) ≡ firstFailing (ten (start-nine c) ∷ [])
+after-nine : (c : tie.Else1) → first_failing (nine (start_nine c) ∷ ten (start_nine c) ∷ []) ≡ first_failing (ten (start_nine c) ∷ [])
 after-nine c = failing-later _ _ (sym c.before.bad-row.ensures ∙ c.if1.false)
 
 -- the test of check 10
-refuting : (c : tie.After-refuted-by) → (ten (start-nine c.before)).fails ≡ not c.refuted-by.result
+refuting : (c : tie.After-refuted-by) → (ten (start_nine c.before)).fails ≡ not c.refuted-by.result
 refuting c =
-    let s = start-nine c.before in
+    let s = start_nine c.before in
     let a = s.args in
-    let e : c.refuted-by.result ≡ refutes (inForce a.background.now a.list.now a.rules) (offered s) (implication a.premise a.conclusion) =
+    let e : c.refuted-by.result ≡ refutes (in_force a.background.now a.list.now a.rules) (offered s) (implication a.premise a.conclusion) =
     c.refuted-by.ensures in
     ap not (sym e)
 

@@ -13,11 +13,11 @@ use Rattle.found_layout.specs.Found.Laws.{finds-table}
 use Rattle.table_layout.specs.declared.Layout.{Layout}
 use Rattle.table_layout.specs.declared.Opened.{Opened}
 use Rattle.table_layout.specs.declared.Opened.TheVariants.{Found, Refused}
-use Rattle.name_spans.specs.Spans.{objectSpan, attributeSpan}
-use Rattle.table_names.specs.Names.{nameRefusal}
+use Rattle.name_spans.specs.Spans.{object_span, attribute_span}
+use Rattle.table_names.specs.Names.{name_refusal}
 use Rattle.table_names.specs.Names.Laws.{object-refused, attribute-refused}
 use Rattle.opened_table.specs.declared.Table.{Table}
-use Rattle.coded_tables.specs.Tables.{layoutAfter}
+use Rattle.coded_tables.specs.Tables.{layout_after}
 use Rattle.opened_table.specs.Views.{no_layout, OpensView}
 
 -- the refusal of a name past the last
@@ -27,15 +27,15 @@ past found k = rw (le-ltb k 0 (omega arith), and-false found)
 module _ (x : Bor (List ℕ)) (answer : Coded) (t : Table) (o : OpensView x answer t) where
   pub view-finds : (l : Layout) → opened_of x.now ≡ Found l → (t.layout ≡ l) × (finds t.file.now t.layout ≡ true)
   view-finds l e =
-      let same : t.layout ≡ l = o.0.1 ∙ ap (λ (y : Opened). layoutAfter y no_layout) e in
+      let same : t.layout ≡ l = o.0.1 ∙ ap (λ (y : Opened). layout_after y no_layout) e in
       (same, rw (o.1, same) ((finds-table x.now l).1 e))
 
   module _ (r : Refusal) (e : opened_of x.now ≡ Refused r) (k : ℕ) where
     none : t.layout ≡ no_layout
-    none = o.0.1 ∙ ap (λ (y : Opened). layoutAfter y no_layout) e
+    none = o.0.1 ∙ ap (λ (y : Opened). layout_after y no_layout) e
 
-    pub refused-objects : nameRefusal (objectSpan t.file.now t.layout k) ≡ 3
+    pub refused-objects : name_refusal (object_span t.file.now t.layout k) ≡ 3
     refused-objects = rw none (object-refused t.file.now no_layout k ∙ past (finds t.file.now no_layout) k)
 
-    pub refused-attributes : nameRefusal (attributeSpan t.file.now t.layout k) ≡ 3
+    pub refused-attributes : name_refusal (attribute_span t.file.now t.layout k) ≡ 3
     refused-attributes = rw none (attribute-refused t.file.now no_layout k ∙ past (finds t.file.now no_layout) k)

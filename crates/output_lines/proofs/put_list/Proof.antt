@@ -6,19 +6,19 @@ use native.Mathlib.Omega.{arith}
 use native.Mathlib.Nat.{sub-zero}
 use borrow.Author.Rules.{rules}
 use lib.ListN.{length, drop, get_or}
-use Rattle.implication.specs.Closure.{implication, implicationsOf}
+use Rattle.implication.specs.Closure.{implication, implications_of}
 use Rattle.implication.specs.Pairs.Laws.{pairs-at, pairs_end}
 use Rattle.text.specs.Page.{page, text}
 use Rattle.text.specs.Page.Laws.{text-on, text-end, same_size}
-use Rattle.output_lines.specs.Lines.{wholeRules, listLines}
+use Rattle.output_lines.specs.Lines.{whole_rules, list_lines}
 use Rattle.output_lines.specs.Lines.Laws.{lines-first, lines_none}
 use Rattle.output_lines.proofs.put_list.Statement.{statement}
 use Rattle.output_lines.proofs.put_list.Tie as tie
 
 abbrev invariant-loop : tie.invariant-loop
 invariant-loop out₀ at n list count whole to₀ i₀ out to i =
-    text (page out to) (listLines n (implicationsOf (whole - i) (drop (i * 2) list)))
-    ≡ text (page out₀ at) (listLines n (wholeRules count list))
+    text (page out to) (list_lines n (implications_of (whole - i) (drop (i * 2) list)))
+    ≡ text (page out₀ at) (list_lines n (whole_rules count list))
 
 abbrev decreases-loop : tie.decreases-loop
 decreases-loop out₀ at n list count whole to₀ i₀ out to i = whole - i
@@ -40,7 +40,7 @@ inside c = omega (arith, c.before.smaller.ensures)
 loop-holds : tie.Need-loop-init invariant-loop decreases-loop
 loop-holds c =
     let a = (start c).args in
-    rw sub-zero (ap (λ k. text (page a.out.now a.at) (listLines a.n (implicationsOf k a.list.now))) c.smaller.ensures)
+    rw sub-zero (ap (λ k. text (page a.out.now a.at) (list_lines a.n (implications_of k a.list.now))) c.smaller.ensures)
 
 mul-put-listed : tie.Need-overflow-mul-put-listed invariant-loop decreases-loop
 mul-put-listed c = omega (arith, inside c.before.before)
@@ -71,11 +71,11 @@ loop-again c =
     let a = (start l.before).args in
     let ws = a.list.now in
     let r = implication (get_or ws (i * 2) 0) (get_or ws (i * 2 + 1) 0) in
-    let rs = implicationsOf (whole - (i + 1)) (drop ((i + 1) * 2) ws) in
+    let rs = implications_of (whole - (i + 1)) (drop ((i + 1) * 2) ws) in
     let h : i < whole = omega arith in
     let p = page l.loop.out l.loop.to in
-    text-on p (listLines a.n (r ∷ [])) (listLines a.n rs) (listed c).put-listed.ensures refl
-    ∙ ap (text p) (lines-first a.n r rs ∙ ap (listLines a.n) (sym (pairs-at implication ws whole i h))) ∙ l.loop.inv
+    text-on p (list_lines a.n (r ∷ [])) (list_lines a.n rs) (listed c).put-listed.ensures refl
+    ∙ ap (text p) (lines-first a.n r rs ∙ ap (list_lines a.n) (sym (pairs-at implication ws whole i h))) ∙ l.loop.inv
 
 same_length : tie.Need-same-length invariant-loop decreases-loop
 same_length c = same_size _ _ _ _ c.before.loop.invariant

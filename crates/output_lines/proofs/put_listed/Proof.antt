@@ -1,11 +1,11 @@
 -- `L `, the rule.
-use Rattle.output_lines.specs.Lines.{listLines}
+use Rattle.output_lines.specs.Lines.{list_lines}
 use borrow.Author.Rules.{rules}
 use Rattle.output_lines.proofs.put_listed.Statement.{statement}
 use Rattle.output_lines.proofs.put_listed.Tie as tie
 
 returns : tie.Need-returns
-unfolding listLines
+unfolding list_lines
 returns c = c.before.before.put-rule.ensures
 
 pub put-listed-spec : {M : Type 1} → statement M

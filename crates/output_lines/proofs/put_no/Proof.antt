@@ -3,7 +3,7 @@ use mathlib.Core.List.{◌∷◌}
 use Rattle.implication.specs.Closure.{implication}
 use Rattle.text.specs.Page.{page}
 use Rattle.text.specs.Page.Laws.{text-then}
-use Rattle.output_lines.specs.Lines.{ruleText}
+use Rattle.output_lines.specs.Lines.{rule_text}
 use borrow.Author.Rules.{rules}
 use Rattle.output_lines.proofs.put_no.Statement.{statement}
 use Rattle.output_lines.proofs.put_no.Tie as tie
@@ -20,7 +20,7 @@ returns c =
     let second = c.before.before in
     let first = ruled second in
     let a = (start first).args in
-    text-then (page a.out.now a.at) (81 ∷ 32 ∷ ruleText a.n (implication a.premise a.conclusion)) _ _
+    text-then (page a.out.now a.at) (81 ∷ 32 ∷ rule_text a.n (implication a.premise a.conclusion)) _ _
     first.put-rule.ensures second.put-number-then.ensures
 
 pub put-no-spec : {M : Type 1} → statement M

@@ -2,19 +2,19 @@
 use Rattle.std.specs.Prelude.{◌≡◌, List, [], ◌∷◌, ◌++◌, ℕ, suc, ◌+◌, length}
 use Rattle.std.proofs.Common.{ap, ◌∙◌, append_assoc, length-append}
 use Rattle.theory.specs.Implications.{Implication}
-use Rattle.text.specs.Text.{setText, newline}
+use Rattle.text.specs.Text.{set_text, newline}
 use Rattle.text.specs.Text.Laws.{set-length}
-use Rattle.output_lines.specs.Lines.{ruleText, listLines}
+use Rattle.output_lines.specs.Lines.{rule_text, list_lines}
 
 -- the line of the first rule, then those of the rest
-pub lines-first : (n : ℕ) (r : Implication ℕ) (rs : List (Implication ℕ)) → listLines n (r ∷ []) ++ listLines n rs ≡ listLines n (r ∷ rs)
-unfolding listLines
-lines-first n r rs = ap (λ bs. 76 ∷ 32 ∷ bs) (append_assoc (ruleText n r) newline (listLines n rs))
+pub lines-first : (n : ℕ) (r : Implication ℕ) (rs : List (Implication ℕ)) → list_lines n (r ∷ []) ++ list_lines n rs ≡ list_lines n (r ∷ rs)
+unfolding list_lines
+lines-first n r rs = ap (λ bs. 76 ∷ 32 ∷ bs) (append_assoc (rule_text n r) newline (list_lines n rs))
 
 -- no line is left
-pub lines_none : (n : ℕ) (rs : List (Implication ℕ)) → rs ≡ [] → listLines n rs ≡ []
-unfolding listLines
+pub lines_none : (n : ℕ) (rs : List (Implication ℕ)) → rs ≡ [] → list_lines n rs ≡ []
+unfolding list_lines
 lines_none n rs e = rw e
 
-pub rule-length : (n : ℕ) (r : Implication ℕ) → length (ruleText n r) ≡ n + suc n
-rule-length n r = length-append (setText n r.premise) _ ∙ rw (set-length n r.premise, set-length n r.conclusion)
+pub rule-length : (n : ℕ) (r : Implication ℕ) → length (rule_text n r) ≡ n + suc n
+rule-length n r = length-append (set_text n r.premise) _ ∙ rw (set-length n r.premise, set-length n r.conclusion)

@@ -12,7 +12,7 @@ use Rattle.implication.specs.Pairs.Laws.{length_pairs}
 use Rattle.implication.specs.Closure.{implication}
 use Rattle.context.specs.Places.{anywhere}
 use Rattle.context.specs.Objects.{object}
-use Rattle.machine.specs.Checks.{State, strange, outsideM}
+use Rattle.machine.specs.Checks.{State, strange, outside_m}
 use Rattle.machine.specs.Calls.{state_of}
 use Rattle.outside_check.specs.Outside.{Fits}
 use Rattle.outside_check.specs.Outside.Laws.{outside-parts}
@@ -31,7 +31,7 @@ state c = let a = (start c).args in state_of a.session a.rows.now a.list.now a.b
 parts : (c : tie.After-full-set) → Fits (state c)
     → let a = (start c).args in
     let m = c.full-set.result in
-    outsideM (state c) (implication a.premise a.conclusion ∷ [])
+    outside_m (state c) (implication a.premise a.conclusion ∷ [])
     ≡ (anywhere (λ (b : Bool). b) (pairs (strange m) c.before.before.smaller.result a.rows.now)
     || (anywhere (λ (b : Bool). b) (pairs (strange m) (length a.background.now / 2) a.background.now)
     || (anywhere (λ (b : Bool). b) (pairs (strange m) c.before.smaller2.result a.list.now)

@@ -4,11 +4,11 @@ use Rattle.std.proofs.Common.{ap, ap₂, ◌∙◌}
 use Rattle.session.specs.declared.Session.{Session}
 use Rattle.attribute_set.specs.Sets.{inside, full}
 use Rattle.implication.specs.Pairs.{pairs}
-use Rattle.implication.specs.Closure.{implication, implicationsOf, allImplications}
+use Rattle.implication.specs.Closure.{implication, implications_of, all_implications}
 use Rattle.context.specs.Places.{anywhere}
 use Rattle.context.specs.Places.Search.{anywhere-one, anywhere-append, anywhere-pairs}
 use Rattle.context.specs.Objects.{object}
-use Rattle.machine.specs.Checks.{strange, strangeObject, strangeImplication, outsideM}
+use Rattle.machine.specs.Checks.{strange, strange_object, strange_implication, outside_m}
 use Rattle.machine.specs.Calls.{state_of}
 
 or-regroup : (a b c d : Bool) → (((a || b) || (c || false)) || d) ≡ (a || (b || (c || d)))
@@ -18,17 +18,17 @@ or-regroup false false true d = refl
 or-regroup false false false d = refl
 
 pub outside-parts : (s : Session) (rows list background : List ℕ) (p c : ℕ)
-    → (m k l : ℕ) → m ≡ full s.n → k ≡ s.rows → l ≡ s.rules → outsideM (state_of s rows list background) (implication p c ∷ [])
+    → (m k l : ℕ) → m ≡ full s.n → k ≡ s.rows → l ≡ s.rules → outside_m (state_of s rows list background) (implication p c ∷ [])
     ≡ (anywhere (λ b. b) (pairs (strange m) k rows)
     || (anywhere (λ b. b) (pairs (strange m) (length background / 2) background)
     || (anywhere (λ b. b) (pairs (strange m) l list) || (strange m p c || not (inside s.current m)))))
-unfolding outsideM
+unfolding outside_m
 outside-parts s rows list background p c m k l e used rules =
-    let f = strangeImplication s.n in
-    let bs = allImplications background in
-    let ls = implicationsOf s.rules list in
+    let f = strange_implication s.n in
+    let bs = all_implications background in
+    let ls = implications_of s.rules list in
     rw (e, used, rules)
-    (ap₂ ◌||◌ (anywhere-pairs (strangeObject s.n) object s.rows rows)
+    (ap₂ ◌||◌ (anywhere-pairs (strange_object s.n) object s.rows rows)
     (ap (λ b. b || not (inside s.current (full s.n)))
     (anywhere-append f (bs ++ ls) _ ∙ ap₂ ◌||◌ (anywhere-append f bs ls) (anywhere-one f (implication p c)))
     ∙ or-regroup (anywhere f bs) (anywhere f ls) (f (implication p c)) _

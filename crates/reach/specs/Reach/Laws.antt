@@ -11,11 +11,11 @@ use Rattle.attribute_set.specs.Sets.{Sub, Apart, full, without}
 use Rattle.attribute_set.specs.Sets.Laws.{sub_refl, sub_trans, sub-antisym, sub-inside, not-inside, sub_dec, apart-sub, without_sub, without-apart, without-great, without-and, without-none}
 use Rattle.implication.specs.Closure.{implication}
 use Rattle.implication.specs.Pairs.Laws.{pairs-whole}
-use Rattle.context.specs.Objects.{Object, object, objectsOf, has, lacks, refutes}
+use Rattle.context.specs.Objects.{Object, object, objects_of, has, lacks, refutes}
 use Rattle.context.specs.Objects.Laws.{has_more, lacks-more, whole, unmarked-lacks, lacks-none, not-refutes, spares}
-use Rattle.context.specs.Filling.{joined, filledAt}
+use Rattle.context.specs.Filling.{joined, filled_at}
 use Rattle.context.specs.Filling.Laws.{has-joined, lacks-joined, filled-member}
-use Rattle.context.specs.Parts.{refutedPart}
+use Rattle.context.specs.Parts.{refuted_part}
 use Rattle.context.specs.Parts.Laws.{part-taken, part_left}
 use Rattle.reach.specs.Reach.{cut, narrow, reach}
 
@@ -41,10 +41,10 @@ module _ (rs : List (Implication ℕ)) (p : ℕ) where
         go (no n) = rw (cut_left n) (out n)
 
     -- what is taken away is what o refutes of x
-    pub cut-part : cut rs p o x ≡ without x (refutedPart rs o (implication p x))
+    pub cut-part : cut rs p o x ≡ without x (refuted_part rs o (implication p x))
     cut-part = go (sub_dec p (has rs o))
       where
-        go : Dec (Sub p (has rs o)) → cut rs p o x ≡ without x (refutedPart rs o (implication p x))
+        go : Dec (Sub p (has rs o)) → cut rs p o x ≡ without x (refuted_part rs o (implication p x))
         go (yes h) = cut-taken h ∙ sym (ap (without x) (part-taken rs o (implication p x) h) ∙ without-and x (lacks rs o))
         go (no n) = cut_left n ∙ sym (ap (without x) (part_left rs o (implication p x) n) ∙ without-none x)
 
@@ -114,11 +114,11 @@ module _ (rs : List (Implication ℕ)) (n : ℕ) (os : List Object) (p : ℕ) wh
   reach-snoc o = rw (narrow-append rs p os (o ∷ []) (full n)) (narrow-inside rs p (o ∷ []) (narrow rs p os (full n)))
 
 -- with marks added to an object the reach is no larger
-pub reach-filled : (rs : List (Implication ℕ)) (n : ℕ) (os : List Object) (p k : ℕ) (m : Object) → Sub (reach rs n (filledAt k m os) p) (reach rs n os p)
+pub reach-filled : (rs : List (Implication ℕ)) (n : ℕ) (os : List Object) (p k : ℕ) (m : Object) → Sub (reach rs n (filled_at k m os) p) (reach rs n os p)
 reach-filled rs n os p k m = reach-great rs n os p (reach-inside rs n filled p) (λ o t h. spared o h (filled-member m k os o t))
   where
     filled : List Object
-    filled = filledAt k m os
+    filled = filled_at k m os
 
     spared : (o : Object) → Sub p (has rs o) → Memᴰ o filled ⊎ Memᴰ (joined o m) filled → Apart (reach rs n filled p) (lacks rs o)
     spared o h (inl t) = reach-apart rs n filled p o t h
@@ -127,11 +127,11 @@ reach-filled rs n os p k m = reach-great rs n os p (reach-inside rs n filled p) 
 
 -- what is counted past the whole objects of a slice changes no reach
 pub reach-whole : (rs : List (Implication ℕ)) (n count : ℕ) (ws : List ℕ) (p : ℕ)
-    → reach rs n (objectsOf count ws) p ≡ reach rs n (objectsOf (whole count ws) ws) p
+    → reach rs n (objects_of count ws) p ≡ reach rs n (objects_of (whole count ws) ws) p
 unfolding reach
 reach-whole rs n count ws p =
     let t = pairs-whole object (λ o. lacks rs o ≡ 0) (λ a. unmarked-lacks rs (object a 0) refl) count ws in
-    ap (λ os. narrow rs p os (full n)) t.1 ∙ narrow-append rs p (objectsOf (whole count ws) ws) t.0 (full n)
+    ap (λ os. narrow rs p os (full n)) t.1 ∙ narrow-append rs p (objects_of (whole count ws) ws) t.0 (full n)
     ∙ narrow-idle rs p t.0 t.2 _
 
 -- with more implications in force the reach is no larger

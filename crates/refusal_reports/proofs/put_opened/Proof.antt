@@ -2,7 +2,7 @@
 use mathlib.Core.Path.{ap, ◌∙◌}
 use borrow.Author.Rules.{rules}
 use Rattle.text.specs.Page.{page, text}
-use Rattle.refusal_reports.specs.Reports.{explanationOf}
+use Rattle.refusal_reports.specs.Reports.{explanation_of}
 use Rattle.refusal_reports.proofs.put_opened.Statement.{statement}
 use Rattle.refusal_reports.proofs.put_opened.Tie as tie
 
@@ -12,7 +12,7 @@ returns c =
     let o = d.before.before in
     let a = o.before.before.before.args in
     d.put-why.ensures
-    ∙ ap (λ f. text (page a.out.now a.at) (explanationOf a.file.now f)) o.«open».ensures
+    ∙ ap (λ f. text (page a.out.now a.at) (explanation_of a.file.now f)) o.«open».ensures
 
 pub put-opened-spec : {M : Type 1} → statement M
 put-opened-spec =

@@ -3,7 +3,7 @@ use mathlib.Core.Path.{ap, ◌∙◌}
 use borrow.Author.Rules.{rules}
 use Rattle.text.specs.Page.{page, text}
 use Rattle.text.specs.Page.Laws.{text-on}
-use Rattle.refusal_reports.specs.Reports.{lineText, report}
+use Rattle.refusal_reports.specs.Reports.{line_text, report}
 use Rattle.refusal_reports.proofs.put_report.Statement.{statement}
 use Rattle.refusal_reports.proofs.put_report.Tie as tie
 
@@ -17,7 +17,7 @@ returns c =
     let line = first.before in
     let a = line.before.before.before.before.args in
     let p = page a.out.now a.at in
-    text-on p _ _ (first.put-line-number.ensures ∙ ap (λ k. text p (lineText k)) line.line-number.ensures) (
+    text-on p _ _ (first.put-line-number.ensures ∙ ap (λ k. text p (line_text k)) line.line-number.ensures) (
     text-on _ _ _ second.put-expectation.ensures (text-on _ _ _ third.put_byte.ensures fourth.put-sentence-line.ensures))
 
 pub put-report-spec : {M : Type 1} → statement M

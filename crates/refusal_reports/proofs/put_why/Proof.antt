@@ -2,14 +2,14 @@
 use mathlib.Core.Path.{ap}
 use borrow.Author.Rules.{rules}
 use Rattle.text.specs.Page.Laws.{text-end}
-use Rattle.refusal_reports.specs.Reports.{explanationOf}
+use Rattle.refusal_reports.specs.Reports.{explanation_of}
 use Rattle.refusal_reports.proofs.put_why.Statement.{statement}
 use Rattle.refusal_reports.proofs.put_why.Tie as tie
 
 returns : tie.Need-returns
 returns c =
     let a = c.before.before.before.before.args in
-    text-end _ _ (ap (explanationOf a.file.now) c.enum_told.given.1)
+    text-end _ _ (ap (explanation_of a.file.now) c.enum_told.given.1)
 
 returns-2 : tie.Need-returns-2
 returns-2 c =

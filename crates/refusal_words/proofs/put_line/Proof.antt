@@ -8,14 +8,14 @@ use lib.ListN.{length, drop, get_or, drop_of_length-le}
 use lib.Seq.{drop-cons}
 use Rattle.text.specs.Page.{page, text}
 use Rattle.text.specs.Page.Laws.{text-on, text-end, same_size}
-use Rattle.refusal_words.specs.Words.{shown, left, lineNumber}
+use Rattle.refusal_words.specs.Words.{shown, left, line_number}
 use Rattle.refusal_words.specs.Words.Laws.{line-ends, line_on, line-none}
 use Rattle.refusal_words.proofs.put_line.Statement.{statement}
 use Rattle.refusal_words.proofs.put_line.Tie as tie
 
 abbrev invariant-loop : tie.invariant-loop
 invariant-loop out₀ at lines number to₀ skip₀ i₀ out to skip i =
-    text (page out to) (lineNumber skip (drop i lines)) ≡ text (page out₀ at) (lineNumber number lines)
+    text (page out to) (line_number skip (drop i lines)) ≡ text (page out₀ at) (line_number number lines)
 
 abbrev decreases-loop : tie.decreases-loop
 decreases-loop out₀ at lines number to₀ skip₀ i₀ out to skip i = length lines - i
@@ -30,8 +30,8 @@ turn c = c.before.before.before.before
 abbrev going : tie.After-put-shown invariant-loop decreases-loop → tie.Else1 invariant-loop decreases-loop
 going c = c.before.before
 
-abbrev shown-behind : tie.After-lines-left invariant-loop decreases-loop → tie.After-put-shown invariant-loop decreases-loop
-shown-behind c = c.before.before.before
+abbrev shown_behind : tie.After-lines-left invariant-loop decreases-loop → tie.After-put-shown invariant-loop decreases-loop
+shown_behind c = c.before.before.before
 
 abbrev ended : tie.Then1 invariant-loop decreases-loop → tie.At-loop invariant-loop decreases-loop
 ended c = c.before.before.before.before
@@ -49,12 +49,12 @@ returns c =
     let t = ended c in
     let l = t.loop in
     let lines = (start t).args.lines.now in
-    let e = ap (lineNumber l.skip) (first t (search rules)) ∙ line-ends l.skip (get_or lines l.i 0) (drop (l.i + 1) lines) (sym c.before.line-ends.ensures ∙ c.if1.true) in
+    let e = ap (line_number l.skip) (first t (search rules)) ∙ line-ends l.skip (get_or lines l.i 0) (drop (l.i + 1) lines) (sym c.before.line-ends.ensures ∙ c.if1.true) in
     text-end (page l.out l.to) _ e ∙ l.inv
 
 loop-again : tie.Need-loop-preserved invariant-loop decreases-loop
 loop-again c =
-    let put = shown-behind c in
+    let put = shown_behind c in
     let on = going put in
     let t = turn on in
     let l = t.loop in
@@ -62,9 +62,9 @@ loop-again c =
     let b = get_or lines l.i 0 in
     let rest = drop (l.i + 1) lines in
     let p = page l.out l.to in
-    ap (λ k. text (page put.put-shown.last.0 put.put-shown.result) (lineNumber k rest)) c.lines_left.ensures
-    ∙ text-on p (shown l.skip b) (lineNumber (left l.skip b) rest) put.put-shown.ensures refl
-    ∙ ap (text p) (sym (ap (lineNumber l.skip) (first t (search rules)) ∙ line_on l.skip b rest (sym on.before.line-ends.ensures ∙ on.if1.left)))
+    ap (λ k. text (page put.put-shown.last.0 put.put-shown.result) (line_number k rest)) c.lines_left.ensures
+    ∙ text-on p (shown l.skip b) (line_number (left l.skip b) rest) put.put-shown.ensures refl
+    ∙ ap (text p) (sym (ap (line_number l.skip) (first t (search rules)) ∙ line_on l.skip b rest (sym on.before.line-ends.ensures ∙ on.if1.left)))
     ∙ l.inv
 
 same-length-2 : tie.Need-same-length-2 invariant-loop decreases-loop

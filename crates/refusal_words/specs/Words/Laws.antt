@@ -1,7 +1,7 @@
 -- The line of a number, a byte at a time.
 use Rattle.std.specs.Prelude.{◌≡◌, true, false, List, [], ◌∷◌, ◌++◌, ℕ, ◌-◌, eqb}
 use Rattle.std.proofs.Common.{eq-eqb, ne_eqb}
-use Rattle.refusal_words.specs.Words.{ends, shown, left, lineNumber}
+use Rattle.refusal_words.specs.Words.{ends, shown, left, line_number}
 
 -- in the line that is sought, and before it
 pub ends_at : (k b : ℕ) → k ≡ 0 → eqb b 10 ≡ ends k b
@@ -24,16 +24,16 @@ pub left-on : (k b : ℕ) → (b ≡ 10 → ⊥) → left k b ≡ k
 left-on k b e = rw (ne_eqb b 10 e, left)
 
 -- the line ends
-pub line-ends : (k b : ℕ) (bs : List ℕ) → ends k b ≡ true → lineNumber k (b ∷ bs) ≡ []
-unfolding lineNumber
-line-ends k b bs e = rw (e, lineNumber)
+pub line-ends : (k b : ℕ) (bs : List ℕ) → ends k b ≡ true → line_number k (b ∷ bs) ≡ []
+unfolding line_number
+line-ends k b bs e = rw (e, line_number)
 
 -- it goes on
-pub line_on : (k b : ℕ) (bs : List ℕ) → ends k b ≡ false → lineNumber k (b ∷ bs) ≡ shown k b ++ lineNumber (left k b) bs
-unfolding lineNumber
-line_on k b bs e = rw (e, lineNumber)
+pub line_on : (k b : ℕ) (bs : List ℕ) → ends k b ≡ false → line_number k (b ∷ bs) ≡ shown k b ++ line_number (left k b) bs
+unfolding line_number
+line_on k b bs e = rw (e, line_number)
 
 -- nothing is left
-pub line-none : (k : ℕ) (bs : List ℕ) → bs ≡ [] → lineNumber k bs ≡ []
-unfolding lineNumber
+pub line-none : (k : ℕ) (bs : List ℕ) → bs ≡ [] → line_number k bs ≡ []
+unfolding line_number
 line-none k bs e = rw e

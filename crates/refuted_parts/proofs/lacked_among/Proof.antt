@@ -8,8 +8,8 @@ use borrow.Author.Rules.{rules}
 use Rattle.theory.specs.Implications.{Implication}
 use Rattle.attribute_set.specs.Sets.{digit, In, without}
 use Rattle.attribute_set.specs.Sets.Laws.{and-apart, member-lt, sub-le, without_sub}
-use Rattle.implication.specs.Closure.{inForce}
-use Rattle.context.specs.Objects.{Object, object, wordAttributes, has, lacks}
+use Rattle.implication.specs.Closure.{in_force}
+use Rattle.context.specs.Objects.{Object, object, word_attributes, has, lacks}
 use Rattle.context.specs.Objects.Laws.{apart-contradicts}
 use Rattle.context.specs.Parts.{spared}
 use Rattle.context.specs.Parts.Laws.{lacked-start, lacked-turn, without-less}
@@ -18,7 +18,7 @@ use Rattle.refuted_parts.proofs.lacked_among.Tie as tie
 
 abbrev invariant-loop : tie.invariant-loop
 invariant-loop background list rules yes' no' has among lacked₀ left₀ lacked left =
-    let l = lacks (inForce background list rules) (object yes' no') in (left ≤ among) × (bit_or lacked (bit_and left l) ≡ bit_and among l)
+    let l = lacks (in_force background list rules) (object yes' no') in (left ≤ among) × (bit_or lacked (bit_and left l) ≡ bit_and among l)
 
 abbrev decreases-loop : tie.decreases-loop
 decreases-loop background list rules yes' no' has among lacked₀ left₀ lacked left = left
@@ -35,7 +35,7 @@ turn c = c.before.before
 
 -- the implications in force, and the object
 abbrev force : tie.After-difference2 invariant-loop decreases-loop → List (Implication ℕ)
-force c = let a = (start c).args in inForce a.background.now a.list.now a.rules
+force c = let a = (start c).args in in_force a.background.now a.list.now a.rules
 
 abbrev row : tie.After-difference2 invariant-loop decreases-loop → Object
 row c = let a = (start c).args in object a.yes a.no
@@ -92,7 +92,7 @@ loop-again c =
     let d = (turn s).before.before in
     let t = at s.before in
     let i = t.0 in
-    let below : i < wordAttributes = member-lt l.left i wordAttributes (omega (arith, l.inv.0, (start d).fits.among.fits)) t.1 in
+    let below : i < word_attributes = member-lt l.left i word_attributes (omega (arith, l.inv.0, (start d).fits.among.fits)) t.1 in
     let e : c.before.difference3.result ≡ without (2 ^ i) (spared (force d) (row d) (2 ^ i)) =
     c.before.difference3.ensures ∙ ap₂ without t.3 (spared-after s) in (
       omega (arith, l.inv.0, left_after c, without-less l.left i (spared (force d) (row d) (2 ^ i)) t.1),

@@ -7,7 +7,7 @@ use borrow.Author.Rules.{rules}
 use Rattle.theory.specs.Implications.{Implication}
 use Rattle.attribute_set.specs.Sets.{Sub}
 use Rattle.attribute_set.specs.Sets.Laws.{and→sub, sub→and}
-use Rattle.implication.specs.Closure.{implication, inForce}
+use Rattle.implication.specs.Closure.{implication, in_force}
 use Rattle.context.specs.Objects.{Object, object, has, lacks}
 use Rattle.context.specs.Objects.Laws.{met-contradicts}
 use Rattle.context.specs.Parts.Laws.{part_left, part-taken, part-unmarked, part-contradicting}
@@ -19,7 +19,7 @@ start c = let known = c.before.before in known.before.before
 
 -- the implications in force, the object, and the implication
 abbrev force : tie.After-closure-of → List (Implication ℕ)
-force c = let a = (start c).args in inForce a.background.now a.list.now a.rules
+force c = let a = (start c).args in in_force a.background.now a.list.now a.rules
 
 abbrev row : tie.After-closure-of → Object
 row c = let a = (start c).args in object a.yes a.no
@@ -38,7 +38,7 @@ taken c = subst (λ h. Sub (rule c.before).premise h) (had c.before) (and→sub 
 returns : tie.Need-returns
 returns c =
     let a = c.before.before.before.args in
-    let rs = inForce a.background.now a.list.now a.rules in
+    let rs = in_force a.background.now a.list.now a.rules in
     sym (part-unmarked rs (object a.yes a.no) (implication a.premise a.conclusion) c.if1.true)
 
 returns-2 : tie.Need-returns-2
@@ -49,7 +49,7 @@ returns-2 c =
 returns-3 : tie.Need-returns-3
 returns-3 c =
     let d = c.before.before in
-    let k = met-contradicts (force d) (row d) (λ e. c.if3.true (ap (λ (x : ℕ). bit_and x (row d).no-marks) d.closure-of.ensures ∙ e)) in
+    let k = met-contradicts (force d) (row d) (λ e. c.if3.true (ap (λ (x : ℕ). bit_and x (row d).no_marks) d.closure-of.ensures ∙ e)) in
     sym (part-taken (force d) (row d) (rule d) (taken c.before) ∙ part-contradicting (force d) (row d) (rule d) k (start d).ranges.conclusion.fits)
 
 returns-4 : tie.Need-returns-4

@@ -2,9 +2,9 @@
 use mathlib.Core.Path.{◌≡◌, sym, ap, ◌∙◌}
 use mathlib.Core.Bool.{Bool}
 use native.Mathlib.Omega.{arith}
-use Rattle.implication.specs.Closure.{implication, inForce}
+use Rattle.implication.specs.Closure.{implication, in_force}
 use Rattle.context.specs.Places.{lowest}
-use Rattle.context.specs.Objects.{Object, objectsOf, refutes, firstRefuting}
+use Rattle.context.specs.Objects.{Object, objects_of, refutes, first_refuting}
 use Rattle.context.specs.Objects.Laws.{whole, lowest-whole, lowest-none, past-spares}
 use borrow.Author.Rules.{rules}
 use Rattle.refuting_rows.proofs.first_refuting.Statement.{statement}
@@ -14,27 +14,27 @@ abbrev start : tie.After-smaller → tie.Start
 start c = let known = c.before.before in known.before.before
 
 abbrev test : tie.After-smaller → Object → Bool
-test c o = let a = (start c).args in refutes (inForce a.background.now a.list.now a.rules) o (implication a.premise a.conclusion)
+test c o = let a = (start c).args in refutes (in_force a.background.now a.list.now a.rules) o (implication a.premise a.conclusion)
 
 -- what the call gives, for the number of whole objects
 found : (c : tie.After-refuting-among)
     → let a = (start c.before).args in
-    c.refuting-among.result ≡ lowest (test c.before) (objectsOf (whole a.count a.rows.now) a.rows.now)
-unfolding firstRefuting
+    c.refuting-among.result ≡ lowest (test c.before) (objects_of (whole a.count a.rows.now) a.rows.now)
+unfolding first_refuting
 found c =
     let d = c.before in
-    let e : c.refuting-among.result ≡ lowest (test d) (objectsOf d.smaller.result (start d).args.rows.now) = c.refuting-among.ensures in
-    e ∙ ap (λ k. lowest (test d) (objectsOf k (start d).args.rows.now)) d.smaller.ensures
+    let e : c.refuting-among.result ≡ lowest (test d) (objects_of d.smaller.result (start d).args.rows.now) = c.refuting-among.ensures in
+    e ∙ ap (λ k. lowest (test d) (objects_of k (start d).args.rows.now)) d.smaller.ensures
 
 returns : tie.Need-returns
-unfolding firstRefuting
+unfolding first_refuting
 returns c =
     let d = c.before.before in
     let a = (start d).args in
     found c.before ∙ sym (lowest-whole (test d) (past-spares _ _) a.count a.rows.now (omega (arith, found c.before, d.smaller.ensures)))
 
 returns-2 : tie.Need-returns-2
-unfolding firstRefuting
+unfolding first_refuting
 returns-2 c =
     let d = c.before.before in
     let a = (start d).args in

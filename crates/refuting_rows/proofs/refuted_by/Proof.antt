@@ -3,9 +3,9 @@ use mathlib.Core.Path.{◌≡◌, sym, ap, ◌∙◌}
 use mathlib.Core.Bool.{not}
 use lib.Dec.{eqb}
 use borrow.Author.Rules.{rules}
-use Rattle.implication.specs.Closure.{implication, inForce}
+use Rattle.implication.specs.Closure.{implication, in_force}
 use Rattle.context.specs.Objects.{object}
-use Rattle.context.specs.Parts.{refutedPart}
+use Rattle.context.specs.Parts.{refuted_part}
 use Rattle.context.specs.Parts.Laws.{part-refutes}
 use Rattle.refuting_rows.proofs.refuted_by.Statement.{statement}
 use Rattle.refuting_rows.proofs.refuted_by.Tie as tie
@@ -13,10 +13,10 @@ use Rattle.refuting_rows.proofs.refuted_by.Tie as tie
 returns : tie.Need-returns
 returns c =
     let a = c.before.before.before.args in
-    let rs = inForce a.background.now a.list.now a.rules in
+    let rs = in_force a.background.now a.list.now a.rules in
     let o = object a.yes a.no in
     let r = implication a.premise a.conclusion in
-    let e : c.refuted-part.result ≡ refutedPart rs o r = c.refuted-part.ensures in
+    let e : c.refuted-part.result ≡ refuted_part rs o r = c.refuted-part.ensures in
     ap (λ x. not (eqb x 0)) e ∙ sym (part-refutes rs o r)
 
 pub refuted-by-spec : {M : Type 1} → statement M

@@ -7,22 +7,22 @@ use borrow.Author.Rules.{rules}
 use native.Mathlib.Omega.{arith}
 use native.Mathlib.Nat.{sub-zero}
 use lib.ListN.{drop, get_or}
-use Rattle.implication.specs.Closure.{implication, inForce}
+use Rattle.implication.specs.Closure.{implication, in_force}
 use Rattle.context.specs.Places.{lowest}
 use Rattle.context.specs.Places.Search.{pair_found, pair-passed, pair-none}
-use Rattle.context.specs.Objects.{Object, object, objectsOf, refutes, firstRefuting}
+use Rattle.context.specs.Objects.{Object, object, objects_of, refutes, first_refuting}
 use Rattle.refuting_rows.proofs.refuting_among.Statement.{statement}
 use Rattle.refuting_rows.proofs.refuting_among.Tie as tie
 
 -- the test of an object
 abbrev test : List ℕ → List ℕ → ℕ → ℕ → ℕ → Object → Bool
-test background list rules premise conclusion o = refutes (inForce background list rules) o (implication premise conclusion)
+test background list rules premise conclusion o = refutes (in_force background list rules) o (implication premise conclusion)
 
 abbrev invariant-loop : tie.invariant-loop
 invariant-loop rows count background list rules premise conclusion place₀ place =
     (place ≤ count)
-    × (place + lowest (test background list rules premise conclusion) (objectsOf (count - place) (drop (place * 2) rows))
-    ≡ lowest (test background list rules premise conclusion) (objectsOf count rows))
+    × (place + lowest (test background list rules premise conclusion) (objects_of (count - place) (drop (place * 2) rows))
+    ≡ lowest (test background list rules premise conclusion) (objects_of count rows))
 
 abbrev decreases-loop : tie.decreases-loop
 decreases-loop rows count background list rules premise conclusion place₀ place = count - place
@@ -46,7 +46,7 @@ loop-holds : tie.Need-loop-init invariant-loop decreases-loop
 loop-holds c = (omega arith, rw sub-zero (omega arith))
 
 returns : tie.Need-returns invariant-loop decreases-loop
-unfolding firstRefuting
+unfolding first_refuting
 returns c =
     let l = (at c.before).loop in
     let a = (start (at c.before)).args in
@@ -63,7 +63,7 @@ loop-again c =
     )
 
 returns-2 : tie.Need-returns-2 invariant-loop decreases-loop
-unfolding firstRefuting
+unfolding first_refuting
 returns-2 c =
     let l = c.before.loop in
     let a = (start c.before).args in

@@ -1,16 +1,16 @@
 -- Each arm is that of the definition.
 use mathlib.Core.Path.{sym, ap}
 use borrow.Author.Rules.{rules}
-use Rattle.size_checks.specs.Verdicts.{verdictOf}
-use Rattle.reply_checks.specs.Outcomes.{askingAfter}
+use Rattle.size_checks.specs.Verdicts.{verdict_of}
+use Rattle.reply_checks.specs.Outcomes.{asking_after}
 use Rattle.reply_checks.proofs.ask.Statement.{statement}
 use Rattle.reply_checks.proofs.ask.Tie as tie
 
 returns : tie.Need-returns
-returns c = sym (ap (λ v. askingAfter c.before.before.args.question (verdictOf v)) c.enum_told.given.1)
+returns c = sym (ap (λ v. asking_after c.before.before.args.question (verdict_of v)) c.enum_told.given.1)
 
 returns-2 : tie.Need-returns-2
-returns-2 c = sym (ap (λ v. askingAfter c.before.before.before.args.question (verdictOf v)) c.before.verdict.given.1)
+returns-2 c = sym (ap (λ v. asking_after c.before.before.before.args.question (verdict_of v)) c.before.verdict.given.1)
 
 pub ask-spec : {M : Type 1} → statement M
 ask-spec = tie.close (tie.spec (λ c. search rules) (λ c. search rules) returns returns-2)

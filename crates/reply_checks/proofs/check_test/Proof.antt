@@ -7,16 +7,16 @@ use lib.ListN.{drop}
 use borrow.Author.Rules.{rules}
 use Rattle.implication.specs.Closure.{implication}
 use Rattle.context.specs.Objects.{Object, object, refutes}
-use Rattle.machine.specs.Checks.{State, force, Check, check, firstFailing, badRow, sessionChecks, testChecks}
+use Rattle.machine.specs.Checks.{State, force, Check, check, first_failing, bad_row, session_checks, test_checks}
 use Rattle.machine.specs.Machine.{Call, test}
 use Rattle.machine.specs.Calls.{state_of}
-use Rattle.size_checks.specs.Verdicts.{verdictOf}
+use Rattle.size_checks.specs.Verdicts.{verdict_of}
 use Rattle.standing.specs.declared.Question.{Question}
 use Rattle.standing.specs.declared.Standing.{Standing}
-use Rattle.standing.specs.Standings.{questionOf}
+use Rattle.standing.specs.Standings.{question_of}
 use Rattle.standing.specs.Standings.Laws.{found-question}
-use Rattle.reply_checks.specs.Outcomes.{askingAfter, asking}
-use Rattle.reply_checks.specs.Outcomes.Laws.{askingFrom, test-found}
+use Rattle.reply_checks.specs.Outcomes.{asking_after, asking}
+use Rattle.reply_checks.specs.Outcomes.Laws.{asking_from, test-found}
 use Rattle.reply_checks.proofs.check_test.Statement.{statement}
 use Rattle.reply_checks.proofs.check_test.Tie as tie
 
@@ -31,11 +31,11 @@ call c = test (object (start c).args.yes (start c).args.no)
 
 -- the checks behind check 8
 abbrev behind : tie.After-find-standing → List Check
-behind c = drop 1 (testChecks (state c) (object (start c).args.yes (start c).args.no))
+behind c = drop 1 (test_checks (state c) (object (start c).args.yes (start c).args.no))
 
 -- the reply, by what was found
-decided : (c : tie.After-find-standing) (x : Standing) → c.find-standing.result ≡ x → askingFrom (behind c) x ≡ asking (state c) (call c)
-decided c x e = sym (test-found (state c) _ ∙ ap (askingFrom (behind c)) (sym c.find-standing.ensures ∙ e))
+decided : (c : tie.After-find-standing) (x : Standing) → c.find-standing.result ≡ x → asking_from (behind c) x ≡ asking (state c) (call c)
+decided c x e = sym (test-found (state c) _ ∙ ap (asking_from (behind c)) (sym c.find-standing.ensures ∙ e))
 
 -- where a question was found
 abbrev opened : tie.After-known-told → tie.After-find-standing
@@ -43,7 +43,7 @@ opened c = c.before.before.before
 
 question-found : (c : tie.After-known-told)
     → let s = state (opened c) in
-    (c.before.standing.given.0.0 ≡ questionOf s) × (firstFailing (sessionChecks s []) ≡ none)
+    (c.before.standing.given.0.0 ≡ question_of s) × (first_failing (session_checks s []) ≡ none)
 question-found c = found-question (state (opened c)) _ (sym c.before.standing.given.1 ∙ (opened c).find-standing.ensures)
 
 -- the row that is offered
@@ -52,21 +52,21 @@ offered c = object (start c).args.yes (start c).args.no
 
 -- checks 9 and 10 to a question
 abbrev tests : State → Object → Question → List Check
-tests s o q = check 9 (badRow s.n o) 0 ∷ check 10 (not (refutes (force s) o (implication q.premise q.conclusion))) 0 ∷ []
+tests s o q = check 9 (bad_row s.n o) 0 ∷ check 10 (not (refutes (force s) o (implication q.premise q.conclusion))) 0 ∷ []
 
-behind-decided : (c : tie.After-check-tested-row) → verdictOf c.check-tested-row.result ≡ firstFailing (behind (opened c.before))
-unfolding testChecks
+behind-decided : (c : tie.After-check-tested-row) → verdict_of c.check-tested-row.result ≡ first_failing (behind (opened c.before))
+unfolding test_checks
 behind-decided c =
     let q = question-found c.before in
     let d = opened c.before in
-    let e : verdictOf c.check-tested-row.result ≡ firstFailing (tests (state d) (offered d) c.before.before.standing.given.0.0) =
+    let e : verdict_of c.check-tested-row.result ≡ first_failing (tests (state d) (offered d) c.before.before.standing.given.0.0) =
     c.check-tested-row.ensures in
-    e ∙ ap (λ (x : Question). firstFailing (tests (state d) (offered d) x)) q.0
+    e ∙ ap (λ (x : Question). first_failing (tests (state d) (offered d) x)) q.0
 
 returns : tie.Need-returns
 returns c =
     let e = c.before.before in
-    c.ask.ensures ∙ ap (askingAfter e.before.standing.given.0.0) (behind-decided c.before) ∙ decided (opened e) _ e.before.standing.given.1
+    c.ask.ensures ∙ ap (asking_after e.before.standing.given.0.0) (behind-decided c.before) ∙ decided (opened e) _ e.before.standing.given.1
 
 returns-2 : tie.Need-returns-2
 returns-2 c = decided c.before.before.before _ c.before.standing2.given.1

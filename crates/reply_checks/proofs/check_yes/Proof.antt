@@ -5,16 +5,16 @@ use mathlib.Core.Option.{none}
 use lib.ListN.{drop}
 use borrow.Author.Rules.{rules}
 use Rattle.implication.specs.Closure.{implication}
-use Rattle.machine.specs.Checks.{State, Check, firstFailing, sessionChecks, yesChecks}
+use Rattle.machine.specs.Checks.{State, Check, first_failing, session_checks, yes_checks}
 use Rattle.machine.specs.Machine.{Call, accept}
 use Rattle.machine.specs.Calls.{state_of}
-use Rattle.size_checks.specs.Verdicts.{verdictOf}
+use Rattle.size_checks.specs.Verdicts.{verdict_of}
 use Rattle.standing.specs.declared.Question.{Question}
 use Rattle.standing.specs.declared.Standing.{Standing}
-use Rattle.standing.specs.Standings.{questionOf}
+use Rattle.standing.specs.Standings.{question_of}
 use Rattle.standing.specs.Standings.Laws.{found-question}
-use Rattle.reply_checks.specs.Outcomes.{askingAfter, asking}
-use Rattle.reply_checks.specs.Outcomes.Laws.{askingFrom, yes-found}
+use Rattle.reply_checks.specs.Outcomes.{asking_after, asking}
+use Rattle.reply_checks.specs.Outcomes.Laws.{asking_from, yes-found}
 use Rattle.reply_checks.proofs.check_yes.Statement.{statement}
 use Rattle.reply_checks.proofs.check_yes.Tie as tie
 
@@ -29,11 +29,11 @@ call c = accept
 
 -- the checks behind check 8
 abbrev behind : tie.After-find-standing → List Check
-behind c = drop 1 (yesChecks (state c))
+behind c = drop 1 (yes_checks (state c))
 
 -- the reply, by what was found
-decided : (c : tie.After-find-standing) (x : Standing) → c.find-standing.result ≡ x → askingFrom (behind c) x ≡ asking (state c) (call c)
-decided c x e = sym (yes-found (state c) ∙ ap (askingFrom (behind c)) (sym c.find-standing.ensures ∙ e))
+decided : (c : tie.After-find-standing) (x : Standing) → c.find-standing.result ≡ x → asking_from (behind c) x ≡ asking (state c) (call c)
+decided c x e = sym (yes-found (state c) ∙ ap (asking_from (behind c)) (sym c.find-standing.ensures ∙ e))
 
 -- where a question was found
 abbrev opened : tie.After-known-told → tie.After-find-standing
@@ -41,17 +41,17 @@ opened c = c.before.before.before
 
 question-found : (c : tie.After-known-told)
     → let s = state (opened c) in
-    (c.before.standing.given.0.0 ≡ questionOf s) × (firstFailing (sessionChecks s []) ≡ none)
+    (c.before.standing.given.0.0 ≡ question_of s) × (first_failing (session_checks s []) ≡ none)
 question-found c = found-question (state (opened c)) _ (sym c.before.standing.given.1 ∙ (opened c).find-standing.ensures)
 
-behind-decided : (c : tie.After-check-rule) → verdictOf c.check-rule.result ≡ firstFailing (behind (opened c.before))
+behind-decided : (c : tie.After-check-rule) → verdict_of c.check-rule.result ≡ first_failing (behind (opened c.before))
 behind-decided c =
     c.check-rule.ensures (ap (λ (q : Question). implication q.premise q.conclusion) (question-found c.before).0)
 
 returns : tie.Need-returns
 returns c =
     let e = c.before.before in
-    c.ask.ensures ∙ ap (askingAfter e.before.standing.given.0.0) (behind-decided c.before) ∙ decided (opened e) _ e.before.standing.given.1
+    c.ask.ensures ∙ ap (asking_after e.before.standing.given.0.0) (behind-decided c.before) ∙ decided (opened e) _ e.before.standing.given.1
 
 returns-2 : tie.Need-returns-2
 returns-2 c = decided c.before.before.before _ c.before.standing2.given.1

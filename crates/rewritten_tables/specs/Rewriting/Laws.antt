@@ -3,31 +3,31 @@
 use Rattle.std.specs.Prelude.{◌≡◌, List, ℕ, ◌*◌, length}
 use Rattle.std.proofs.Common.{sym, ap, subst, ◌∙◌}
 use Rattle.std.proofs.lemmas.List.{length-replicate}
-use Rattle.session.specs.Limits.{mostObjects}
+use Rattle.session.specs.Limits.{most_objects}
 use Rattle.session.specs.declared.Refusal.{Refusal}
 use Rattle.table_layout.specs.declared.Layout.{Layout}
 use Rattle.table_layout.specs.declared.Opened.TheVariants.{Found, Refused as Unread}
 use Rattle.table_layout.specs.Layout.{opened_of}
 use Rattle.table_layout.specs.Layout.Passed.{table-objects}
-use Rattle.mark_reading.specs.Marks.{reading, wordsRead}
+use Rattle.mark_reading.specs.Marks.{reading, words_read}
 use Rattle.mark_reading.specs.Marks.Laws.{reading-all}
 use Rattle.table_writing.specs.declared.Written.{Written}
 use Rattle.table_writing.specs.declared.Written.TheVariants.{Refused}
 use Rattle.table_writing.specs.Writing.{WritesFrom}
-use Rattle.written_tables.specs.Settled.{namesUpTo, WritesAgain}
+use Rattle.written_tables.specs.Settled.{names_up_to, WritesAgain}
 use Rattle.rewritten_tables.specs.Rewriting.{no_rows, RewritesAs, RewritesFrom}
 
 pub read_opened : (file : List ℕ) → reading (length no_rows) file ≡ opened_of file
 read_opened file =
-    ap (λ (k : ℕ). reading k file) (length-replicate {A = ℕ} (mostObjects * 2) 0)
+    ap (λ (k : ℕ). reading k file) (length-replicate {A = ℕ} (most_objects * 2) 0)
     ∙ reading-all (opened_of file) (λ l e. table-objects file l e)
 
 module _ (file out : List ℕ) (x : Written) (out' : List ℕ) where
-  pub rewrites-found : (l : Layout) (ws : List ℕ) → opened_of file ≡ Found l → ws ≡ wordsRead file no_rows
-      → WritesFrom l.attributes l.objects ws (namesUpTo file l (length file)) out x out' → RewritesFrom file out x out'
+  pub rewrites-found : (l : Layout) (ws : List ℕ) → opened_of file ≡ Found l → ws ≡ words_read file no_rows
+      → WritesFrom l.attributes l.objects ws (names_up_to file l (length file)) out x out' → RewritesFrom file out x out'
   rewrites-found l ws e read w =
       let again : WritesAgain file l no_rows (length file) out x out' =
-      subst (λ words. WritesFrom l.attributes l.objects words (namesUpTo file l (length file)) out x out') read w in
+      subst (λ words. WritesFrom l.attributes l.objects words (names_up_to file l (length file)) out x out') read w in
       subst (λ o. RewritesAs o file out x out') (sym e) again
 
   pub rewrites-refused : (r : Refusal) → opened_of file ≡ Unread r → x ≡ Refused r → out' ≡ out → RewritesFrom file out x out'

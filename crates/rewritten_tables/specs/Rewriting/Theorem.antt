@@ -11,7 +11,7 @@ use Rattle.table_layout.specs.Layout.{opened_of}
 use Rattle.table_layout.specs.Layout.Passed.{starts-inside}
 use Rattle.table_writing.specs.declared.Written.{Written}
 use Rattle.table_writing.specs.declared.Written.TheVariants.{Bytes, Refused}
-use Rattle.written_tables.specs.Settled.{textAgain, Settles}
+use Rattle.written_tables.specs.Settled.{text_again, Settles}
 use Rattle.written_tables.specs.Settled.Theorem.{settled}
 use Rattle.rewritten_tables.specs.Rewriting.{no_rows, RewritesAs, RewritesFrom, SettlesAs, SameAgain}
 use Rattle.rewritten_tables.specs.Rewriting.Laws.{read_opened}
@@ -43,7 +43,7 @@ same-again file out size out' w = go (opened_of file) (rewritten file out (Bytes
     go : (o : Opened) → SettlesAs o file out (Bytes size) out' → SameAgain size out'
     go (Found l) (inl h) = never h.0
     go (Found l) (inr h) =
-        let text = textAgain file l no_rows (length file) in
+        let text = text_again file l no_rows (length file) in
         subst (λ k. SameAgain k out') (sym (bytes-size size (length text) h.0))
         (subst (SameAgain (length text)) (sym h.1) (settled-again file l text (drop (length text) out) h.2))
     go (Unread r) h = never h.0

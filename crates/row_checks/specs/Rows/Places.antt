@@ -2,10 +2,10 @@
 -- else 0.
 use Rattle.std.specs.Prelude.{◌≡◌, List, ℕ, ◌≤◌, ◌<◌}
 use Rattle.session.specs.declared.Refusal.{Refusal}
-use Rattle.context.specs.Objects.{objectsOf, markedTwice}
+use Rattle.context.specs.Objects.{objects_of, marked_twice}
 use Rattle.demands.specs.Facts.Refused.{Lowest}
 
 pub record RightRow (used : ℕ) (words : List ℕ) (r : Refusal) : Type 0 where
   pub number : (0 < r.number) × (r.number ≤ 5)
-  pub five : r.number ≡ 5 → Lowest markedTwice (objectsOf used words) r.place
+  pub five : r.number ≡ 5 → Lowest marked_twice (objects_of used words) r.place
   pub other : (r.number ≡ 5 → ⊥) → r.place ≡ 0

@@ -2,7 +2,7 @@
 use Prim.Native.Nat.{◌-◌, ◌<◌, ◌≤◌}
 use native.Mathlib.Omega.{arith}
 use lib.ListN.{length, get_or}
-use Rattle.session.specs.Limits.{mostObjects}
+use Rattle.session.specs.Limits.{most_objects}
 use Rattle.nearly_always.specs.Nearly.Counting.{Adding}
 use Rattle.nearly_always.specs.Nearly.Counting.Laws.{adding-start, adding-step, adding-end}
 use borrow.Author.Rules.{rules}
@@ -24,7 +24,7 @@ inside : (c : tie.After-slice-known invariant-loop decreases-loop) → let l = (
 inside c = omega (arith, c.before.loop-test.true, (turn c).loop.invariant.same_length, (turn c).before.requires.0)
 
 -- which is that at the start
-small : (c : tie.After-slice-known invariant-loop decreases-loop) → let l = (turn c).loop in get_or l.counts l.j 0 ≤ mostObjects
+small : (c : tie.After-slice-known invariant-loop decreases-loop) → let l = (turn c).loop in get_or l.counts l.j 0 ≤ most_objects
 small c =
     let l = (turn c).loop in
     omega (arith, l.inv.above l.j (omega arith), (turn c).before.requires.1.at l.j c.before.loop-test.true)

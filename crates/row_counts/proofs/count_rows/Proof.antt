@@ -4,9 +4,9 @@ use Prim.Native.Nat.{◌+◌, ◌-◌, ◌*◌, ◌≤◌, ◌<◌}
 use native.Mathlib.Omega.{arith}
 use native.Mathlib.Nat.{sub-zero}
 use lib.ListN.{length, drop, get_or}
-use Rattle.session.specs.Limits.{mostObjects}
+use Rattle.session.specs.Limits.{most_objects}
 use Rattle.implication.specs.Pairs.Laws.{length_pairs, pairs-at, pairs_end}
-use Rattle.context.specs.Objects.{object, objectsOf}
+use Rattle.context.specs.Objects.{object, objects_of}
 use Rattle.nearly_always.specs.Nearly.Counting.{Small, CountedBut}
 use Rattle.nearly_always.specs.Nearly.Counting.Laws.{counted_start, counted-end, counted-small}
 use Rattle.row_counts.proofs.count_rows.Statement.{statement}
@@ -14,7 +14,7 @@ use Rattle.row_counts.proofs.count_rows.Tie as tie
 
 abbrev invariant-loop : tie.invariant-loop
 invariant-loop rows used premise counts₀ n total₀ i₀ counts total i =
-    (i ≤ used) × (length counts ≡ length counts₀) × CountedBut n (objectsOf (used - i) (drop (i * 2) rows)) (objectsOf used rows) premise total counts
+    (i ≤ used) × (length counts ≡ length counts₀) × CountedBut n (objects_of (used - i) (drop (i * 2) rows)) (objects_of used rows) premise total counts
 
 abbrev decreases-loop : tie.decreases-loop
 decreases-loop rows used premise counts₀ n total₀ i₀ counts total i = used - i
@@ -32,14 +32,14 @@ turn c = c.before.before.before.before
 loop-holds : tie.Need-loop-init invariant-loop decreases-loop
 loop-holds c =
     let a = c.before.before.args in
-    let os = objectsOf a.used a.rows.now in
+    let os = objects_of a.used a.rows.now in
     (omega arith, refl, rw sub-zero (counted_start a.n os a.premise a.counts.now c.before.before.requires.3))
 
 -- no count is above the rows
-small : (c : tie.At-loop invariant-loop decreases-loop) → Small (start c).args.n c.loop.counts × (c.loop.total ≤ mostObjects)
+small : (c : tie.At-loop invariant-loop decreases-loop) → Small (start c).args.n c.loop.counts × (c.loop.total ≤ most_objects)
 small c =
     let a = (start c).args in
-    counted-small a.n _ (objectsOf a.used a.rows.now) a.premise c.loop.total c.loop.counts c.loop.invariant.2
+    counted-small a.n _ (objects_of a.used a.rows.now) a.premise c.loop.total c.loop.counts c.loop.invariant.2
     (omega (arith, length_pairs object a.used a.rows.now, (start c).requires.0))
 
 count-row-requires : tie.Need-count-row-requires invariant-loop decreases-loop
@@ -57,7 +57,7 @@ loop-again c =
       omega arith,
       called.ensures.same_length ∙ l.loop.inv.1,
       called.ensures.counted _ _ (get_or a.rows.now (i * 2 + 1) 0)
-          (subst (λ os. CountedBut a.n os (objectsOf a.used a.rows.now) a.premise l.loop.total l.loop.counts)
+          (subst (λ os. CountedBut a.n os (objects_of a.used a.rows.now) a.premise l.loop.total l.loop.counts)
           (pairs-at object a.rows.now a.used i h) l.loop.inv.2),
     )
 
@@ -65,7 +65,7 @@ returns : tie.Need-returns invariant-loop decreases-loop
 returns c =
     let l = c.before in
     let a = (start l).args in
-    let os = objectsOf a.used a.rows.now in
+    let os = objects_of a.used a.rows.now in
     counted-end a.n os a.premise l.loop.total l.loop.counts
     (subst (λ rest. CountedBut a.n rest os a.premise l.loop.total l.loop.counts)
     (pairs_end object (drop (l.loop.i * 2) a.rows.now) a.used l.loop.i (omega arith)) l.loop.invariant.2)

@@ -7,14 +7,14 @@ use native.Mathlib.Numerals.{add-one}
 use lib.ListN.{get_or}
 use Rattle.attribute_set.specs.Passing.{passing}
 use Rattle.attribute_set.specs.Passing.Laws.{passing-lt, passing-none}
-use Rattle.nearly_always.specs.Nearly.Counting.{exceedsBy, joinedBy}
+use Rattle.nearly_always.specs.Nearly.Counting.{exceeds_by, joined_by}
 use Rattle.nearly_always.specs.Nearly.Counting.Laws.{passing-joined}
 use borrow.Author.Rules.{rules}
 use Rattle.row_counts.proofs.exceeding.Statement.{statement}
 use Rattle.row_counts.proofs.exceeding.Tie as tie
 
 abbrev invariant-loop : tie.invariant-loop
-invariant-loop counts n total percent set₀ p₀ set p = (p ≤ n) × (set ≡ passing (exceedsBy percent total counts) p)
+invariant-loop counts n total percent set₀ p₀ set p = (p ≤ n) × (set ≡ passing (exceeds_by percent total counts) p)
 
 abbrev decreases-loop : tie.decreases-loop
 decreases-loop counts n total percent set₀ p₀ set p = n - p
@@ -24,8 +24,8 @@ abbrev start : tie.At-loop invariant-loop decreases-loop → tie.Start invariant
 start c = c.before.before
 
 -- with attribute p joined, it is the set of one attribute more
-passing-next : (percent total : ℕ) (counts : List ℕ) (p : ℕ) {set set' : ℕ} → set ≡ passing (exceedsBy percent total counts) p
-    → set' ≡ joinedBy percent total (get_or counts p 0) p set → set' ≡ passing (exceedsBy percent total counts) (p + 1)
+passing-next : (percent total : ℕ) (counts : List ℕ) (p : ℕ) {set set' : ℕ} → set ≡ passing (exceeds_by percent total counts) p
+    → set' ≡ joined_by percent total (get_or counts p 0) p set → set' ≡ passing (exceeds_by percent total counts) (p + 1)
 passing-next percent total counts p e j = j ∙ rw (e, add-one) (passing-joined percent total counts p)
 
 joined-requires : tie.Need-joined-requires invariant-loop decreases-loop
@@ -50,7 +50,7 @@ returns c =
     let l = c.before in
     let a = (start l).args in
     let e : l.loop.p ≡ a.n = omega arith in
-    l.loop.invariant.1 ∙ ap (passing (exceedsBy a.percent a.total a.counts.now)) e
+    l.loop.invariant.1 ∙ ap (passing (exceeds_by a.percent a.total a.counts.now)) e
 
 pub exceeding-spec : {M : Type 1} → statement M
 exceeding-spec =

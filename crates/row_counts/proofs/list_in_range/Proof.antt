@@ -3,8 +3,8 @@ use mathlib.Core.Path.{ap, ◌∙◌}
 use native.Mathlib.Omega.{arith}
 use Rattle.attribute_set.specs.Sets.{without}
 use Rattle.implication.specs.Pairs.Laws.{length_pairs}
-use Rattle.context.specs.Objects.{object, objectsOf}
-use Rattle.nearly_always.specs.Nearly.{nearlyAlways}
+use Rattle.context.specs.Objects.{object, objects_of}
+use Rattle.nearly_always.specs.Nearly.{nearly_always}
 use Rattle.nearly_always.specs.Nearly.Counting.Laws.{zero-counts, all_small, exceeds-counted}
 use borrow.Author.Rules.{rules}
 use Rattle.row_counts.proofs.list_in_range.Statement.{statement}
@@ -24,17 +24,17 @@ exceeding-requires c κs =
     let d = c.before.before in
     let p = (start d).requires in
     let a = (start d).args in
-    let s = all_small a.n (objectsOf a.used a.rows.now) a.premise d.count-rows.result _ d.count-rows.ensures
+    let s = all_small a.n (objects_of a.used a.rows.now) a.premise d.count-rows.result _ d.count-rows.ensures
     (omega (arith, length_pairs object a.used a.rows.now, p.objects)) in
     ((p.attributes, search rules, s.0), (s.1, p.percentage))
 
 returns : tie.Need-returns
-unfolding nearlyAlways
+unfolding nearly_always
 returns c =
     let e = c.before in
     let d = e.before.before.before in
     let a = (start d).args in
-    let f = exceeds-counted a.n a.percent d.count-rows.result (objectsOf a.used a.rows.now) a.premise _ d.count-rows.ensures in
+    let f = exceeds-counted a.n a.percent d.count-rows.result (objects_of a.used a.rows.now) a.premise _ d.count-rows.ensures in
     c.difference.ensures ∙ ap (λ s. without s a.premise) (e.exceeding.ensures ∙ f)
 
 pub list-in-range-spec : {M : Type 1} → statement M

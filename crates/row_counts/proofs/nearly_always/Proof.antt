@@ -8,19 +8,19 @@ use Rattle.row_counts.proofs.nearly_always.Tie as tie
 
 returns : tie.Need-returns
 returns c = record {
-  in-range = λ h. absurd (true≢false (sym (c.before.in-range.ensures.seen h) ∙ not-true _ c.if1.true));
+  in_range = λ h. absurd (true≢false (sym (c.before.in_range.ensures.seen h) ∙ not-true _ c.if1.true));
   out_of_range = λ h. refl;
 }
 
 list-in-range-requires : tie.Need-list-in-range-requires
-list-in-range-requires c κs = c.before.in-range.ensures.so (not-false _ c.if1.false)
+list-in-range-requires c κs = c.before.in_range.ensures.so (not-false _ c.if1.false)
 
 returns-2 : tie.Need-returns-2
 returns-2 c =
     let tested = c.before in
     record {
-      in-range = λ h. c.list-in-range.ensures;
-      out_of_range = λ h. absurd (h (tested.before.in-range.ensures.so (not-false _ tested.if1.false)));
+      in_range = λ h. c.list-in-range.ensures;
+      out_of_range = λ h. absurd (h (tested.before.in_range.ensures.so (not-false _ tested.if1.false)));
     }
 
 pub nearly-always-spec : {M : Type 1} → statement M

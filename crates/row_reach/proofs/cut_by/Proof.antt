@@ -2,9 +2,9 @@
 use mathlib.Core.Path.{◌≡◌, sym, ap, ◌∙◌}
 use borrow.Author.Rules.{rules}
 use Rattle.attribute_set.specs.Sets.{without}
-use Rattle.implication.specs.Closure.{implication, inForce}
+use Rattle.implication.specs.Closure.{implication, in_force}
 use Rattle.context.specs.Objects.{object}
-use Rattle.context.specs.Parts.{refutedPart}
+use Rattle.context.specs.Parts.{refuted_part}
 use Rattle.reach.specs.Reach.Laws.{cut-part}
 use Rattle.row_reach.proofs.cut_by.Statement.{statement}
 use Rattle.row_reach.proofs.cut_by.Tie as tie
@@ -12,9 +12,9 @@ use Rattle.row_reach.proofs.cut_by.Tie as tie
 returns : tie.Need-returns
 returns c =
     let a = c.before.before.before.before.args in
-    let rs = inForce a.background.now a.list.now a.rules in
+    let rs = in_force a.background.now a.list.now a.rules in
     let o = object a.yes a.no in
-    let e : c.before.refuted-part.result ≡ refutedPart rs o (implication a.set a.x) = c.before.refuted-part.ensures in
+    let e : c.before.refuted-part.result ≡ refuted_part rs o (implication a.set a.x) = c.before.refuted-part.ensures in
     c.difference.ensures ∙ ap (without a.x) e ∙ sym (cut-part rs a.set o a.x)
 
 pub cut-by-spec : {M : Type 1} → statement M

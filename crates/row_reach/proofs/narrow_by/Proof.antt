@@ -7,17 +7,17 @@ use native.Mathlib.Omega.{arith}
 use native.Mathlib.Nat.{sub-zero}
 use lib.ListN.{drop, get_or}
 use Rattle.theory.specs.Implications.{Implication}
-use Rattle.implication.specs.Closure.{inForce}
+use Rattle.implication.specs.Closure.{in_force}
 use Rattle.implication.specs.Pairs.Laws.{pairs-at, pairs_end}
-use Rattle.context.specs.Objects.{object, objectsOf}
+use Rattle.context.specs.Objects.{object, objects_of}
 use Rattle.reach.specs.Reach.{cut, narrow}
 use Rattle.row_reach.proofs.narrow_by.Statement.{statement}
 use Rattle.row_reach.proofs.narrow_by.Tie as tie
 
 abbrev invariant-loop : tie.invariant-loop
 invariant-loop rows count background list rules set x left₀ i₀ left i =
-    let rs = inForce background list rules in
-    (i ≤ count) × (narrow rs set (objectsOf (count - i) (drop (i * 2) rows)) left ≡ narrow rs set (objectsOf count rows) x)
+    let rs = in_force background list rules in
+    (i ≤ count) × (narrow rs set (objects_of (count - i) (drop (i * 2) rows)) left ≡ narrow rs set (objects_of count rows) x)
 
 abbrev decreases-loop : tie.decreases-loop
 decreases-loop rows count background list rules set x left₀ i₀ left i = count - i
@@ -31,7 +31,7 @@ start c = let known = c.before.before in known.before.before
 
 -- the implications in force
 abbrev force : tie.At-loop invariant-loop decreases-loop → List (Implication ℕ)
-force c = let a = (start c).args in inForce a.background.now a.list.now a.rules
+force c = let a = (start c).args in in_force a.background.now a.list.now a.rules
 
 loop-holds : tie.Need-loop-init invariant-loop decreases-loop
 loop-holds c = (omega arith, rw sub-zero)
@@ -45,7 +45,7 @@ loop-again c =
     let o = object (get_or a.rows.now (l.i * 2) 0) (get_or a.rows.now (l.i * 2 + 1) 0) in
     let e : c.cut_by.result ≡ cut (force (at c)) a.set o l.left = c.cut_by.ensures in (
       omega arith,
-      ap (narrow (force (at c)) a.set (objectsOf (a.count - (l.i + 1)) (drop ((l.i + 1) * 2) a.rows.now))) e
+      ap (narrow (force (at c)) a.set (objects_of (a.count - (l.i + 1)) (drop ((l.i + 1) * 2) a.rows.now))) e
           ∙ ap (λ os. narrow (force (at c)) a.set os l.left) (sym (pairs-at object a.rows.now a.count l.i h)) ∙ l.inv.1,
     )
 

@@ -1,8 +1,8 @@
 -- M cut by the whole objects of the slice; what is counted past them cuts nothing.
 use mathlib.Core.Path.{◌≡◌, sym, ap₂, ◌∙◌}
 use Prim.Native.Nat.{min}
-use Rattle.implication.specs.Closure.{inForce}
-use Rattle.context.specs.Objects.{objectsOf}
+use Rattle.implication.specs.Closure.{in_force}
+use Rattle.context.specs.Objects.{objects_of}
 use Rattle.reach.specs.Reach.{narrow, reach}
 use Rattle.reach.specs.Reach.Laws.{reach-whole}
 use borrow.Author.Rules.{rules}
@@ -16,11 +16,11 @@ returns : tie.Need-returns
 unfolding reach
 returns c =
     let a = (start c.before.before).args in
-    let rs = inForce a.background.now a.list.now a.rules in
-    let e : c.narrow-by.result ≡ narrow rs a.set (objectsOf c.before.before.smaller.result a.rows.now) c.before.full-set.result =
+    let rs = in_force a.background.now a.list.now a.rules in
+    let e : c.narrow-by.result ≡ narrow rs a.set (objects_of c.before.before.smaller.result a.rows.now) c.before.full-set.result =
     c.narrow-by.ensures in
     e
-    ∙ ap₂ (λ k x. narrow rs a.set (objectsOf k a.rows.now) x) c.before.before.smaller.ensures c.before.full-set.ensures
+    ∙ ap₂ (λ k x. narrow rs a.set (objects_of k a.rows.now) x) c.before.before.smaller.ensures c.before.full-set.ensures
     ∙ sym (reach-whole rs (min a.n 64) a.count a.rows.now a.set)
 
 pub reach-of-spec : {M : Type 1} → statement M

@@ -5,13 +5,13 @@ use native.Mathlib.Omega.{arith}
 use borrow.Author.Rules.{rules}
 use Rattle.attribute_set.specs.Sets.{meets}
 use Rattle.attribute_set.specs.Sets.Laws.{inside-first}
-use Rattle.context.specs.Objects.{object, markedTwice}
-use Rattle.machine.specs.Checks.{strange, strangeObject}
+use Rattle.context.specs.Objects.{object, marked_twice}
+use Rattle.machine.specs.Checks.{strange, strange_object}
 use Rattle.row_tests.proofs.bad_row.Statement.{statement}
 use Rattle.row_tests.proofs.bad_row.Tie as tie
 
 -- the first test: an attribute outside M
-first : (c : tie.After-strange-pair) → let a = c.before.before.args in c.strange-pair.result ≡ strangeObject a.n (object a.yes a.no)
+first : (c : tie.After-strange-pair) → let a = c.before.before.args in c.strange-pair.result ≡ strange_object a.n (object a.yes a.no)
 unfolding strange
 first c =
     let a = c.before.before.args in
@@ -22,7 +22,7 @@ returns : tie.Need-returns
 returns c = rw (sym (first c.before) ∙ c.if1.true)
 
 returns-2 : tie.Need-returns-2
-unfolding markedTwice meets
+unfolding marked_twice meets
 returns-2 c = rw (sym (first c.before) ∙ c.if1.false)
 
 pub bad-row-spec : {M : Type 1} → statement M

@@ -12,11 +12,11 @@ use borrow.Author.Tests.{le-leb, lt-leb}
 use Rattle.session.specs.Refusals.{refusal}
 use Rattle.theory.specs.Implications.{Implication}
 use Rattle.implication.specs.Pairs.Laws.{length_pairs}
-use Rattle.implication.specs.Closure.{implication, inForceWith}
+use Rattle.implication.specs.Closure.{implication, in_force_with}
 use Rattle.context.specs.Places.{lowest, anywhere}
 use Rattle.context.specs.Places.Search.{anywhere-at, anywhere-none}
 use Rattle.context.specs.Objects.{object, contradicts}
-use Rattle.machine.specs.Checks.{State, firstFailing, question, withQuestion, yesChecks}
+use Rattle.machine.specs.Checks.{State, first_failing, question, with_question, yes_checks}
 use Rattle.machine.specs.Checks.Laws.{failing-nothing, failing-here, failing-later}
 use Rattle.machine.specs.Calls.{state_of}
 use Rattle.rule_tests.proofs.check_rule.Statement.{statement}
@@ -24,7 +24,7 @@ use Rattle.rule_tests.proofs.check_rule.Tie as tie
 
 -- whether a row contradicts with the question added, and whether there is no place for a rule
 abbrev Contradicting : State → Bool → Type 0
-Contradicting s b = anywhere (contradicts (withQuestion s)) s.rows ≡ b
+Contradicting s b = anywhere (contradicts (with_question s)) s.rows ≡ b
 
 abbrev Full : State → Bool → Type 0
 Full s b = leb (s.lent.list / 2) (length s.list) ≡ b
@@ -32,18 +32,18 @@ Full s b = leb (s.lent.list / 2) (length s.list) ≡ b
 -- by that, the first of checks 11 and 12 that fails
 module _ (s : State) where
   -- 11 fails
-  eleven : Contradicting s true → firstFailing (drop 1 (yesChecks s)) ≡ some (refusal 11 (lowest (contradicts (withQuestion s)) s.rows))
-  unfolding yesChecks
+  eleven : Contradicting s true → first_failing (drop 1 (yes_checks s)) ≡ some (refusal 11 (lowest (contradicts (with_question s)) s.rows))
+  unfolding yes_checks
   eleven h = failing-here _ _ h
 
   -- 11 passes and 12 fails
-  twelve : Contradicting s false → Full s true → firstFailing (drop 1 (yesChecks s)) ≡ some (refusal 12 0)
-  unfolding yesChecks
+  twelve : Contradicting s false → Full s true → first_failing (drop 1 (yes_checks s)) ≡ some (refusal 12 0)
+  unfolding yes_checks
   twelve h k = failing-later _ _ h ∙ failing-here _ _ k
 
   -- both pass
-  neither : Contradicting s false → Full s false → firstFailing (drop 1 (yesChecks s)) ≡ none
-  unfolding yesChecks
+  neither : Contradicting s false → Full s false → first_failing (drop 1 (yes_checks s)) ≡ none
+  unfolding yes_checks
   neither h k = failing-later _ _ h ∙ failing-later _ _ k ∙ failing-nothing
 
 abbrev start : tie.After-first-contradiction → tie.Start
@@ -56,7 +56,7 @@ state c = let a = (start c).args in state_of a.session a.rows.now a.list.now a.b
 searched : (c : tie.After-first-contradiction)
     → let a = (start c).args in
     c.first-contradiction.result
-    ≡ lowest (contradicts (inForceWith a.background.now a.list.now a.session.rules a.premise a.conclusion)) (state c).rows
+    ≡ lowest (contradicts (in_force_with a.background.now a.list.now a.session.rules a.premise a.conclusion)) (state c).rows
 searched c = c.first-contradiction.ensures
 
 -- the rule is the standing question
@@ -64,19 +64,19 @@ abbrev Standing : tie.After-first-contradiction → Type 0
 Standing c = let a = (start c).args in implication a.premise a.conclusion ≡ question (state c)
 
 row : (c : tie.After-first-contradiction) → Standing c
-    → c.first-contradiction.result ≡ lowest (contradicts (withQuestion (state c))) (state c).rows
+    → c.first-contradiction.result ≡ lowest (contradicts (with_question (state c))) (state c).rows
 row c q =
     let a = (start c).args in
     let s = state c in
     searched c
-    ∙ ap (λ (r : Implication ℕ). lowest (contradicts (inForceWith a.background.now a.list.now a.session.rules r.premise r.conclusion)) s.rows) q
+    ∙ ap (λ (r : Implication ℕ). lowest (contradicts (in_force_with a.background.now a.list.now a.session.rules r.premise r.conclusion)) s.rows) q
     ∙ ap (λ rs. lowest (contradicts rs) s.rows) (append_assoc s.background s.list (question s ∷ []))
 
 -- no row contradicts
 none-contradicts : (c : tie.Else1) → Standing c.before → Contradicting (state c.before) false
 none-contradicts c q =
     let a = (start c.before).args in
-    anywhere-none (contradicts (withQuestion (state c.before))) object a.rows.now a.session.rows (omega (arith, row c.before q))
+    anywhere-none (contradicts (with_question (state c.before))) object a.rows.now a.session.rows (omega (arith, row c.before q))
 
 returns : tie.Need-returns
 returns c q =
@@ -84,7 +84,7 @@ returns c q =
     let a = (start d).args in
     let s = state d in
     c.refused.ensures ∙ ap (λ place. some (refusal 11 place)) (row d q)
-    ∙ sym (eleven s (anywhere-at (contradicts (withQuestion s)) object a.rows.now a.session.rows (omega (arith, row d q))))
+    ∙ sym (eleven s (anywhere-at (contradicts (with_question s)) object a.rows.now a.session.rows (omega (arith, row d q))))
 
 returns-2 : tie.Need-returns-2
 returns-2 c q =

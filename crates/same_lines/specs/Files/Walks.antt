@@ -18,10 +18,10 @@ use Rattle.table_lines.specs.Pieces.{lines_of}
 use Rattle.table_lines.specs.Pieces.Laws.{start-there, start-end, start-bytes}
 use Rattle.table_kinds.specs.Kinds.{absent}
 use Rattle.line_faults.specs.Faults.{fault}
-use Rattle.line_walk.specs.Walk.{lineFault, walk}
-use Rattle.table_walk.specs.Walk.{rest, thenRest, placeOf}
+use Rattle.line_walk.specs.Walk.{line_fault, walk}
+use Rattle.table_walk.specs.Walk.{rest, then_rest, place_of}
 use Rattle.table_walk.specs.Walk.Laws.{rest-enough}
-use Rattle.table_rows.specs.Rows.{rowOf, rows_from}
+use Rattle.table_rows.specs.Rows.{row_of, rows_from}
 use Rattle.same_lines.specs.Files.{SameLine, SameRefusal}
 
 -- walks that end at the same line, or are refused alike
@@ -85,8 +85,8 @@ module _ (f g : List ℕ) (e : lines_of f ≡ lines_of g) where
     pub after_same : SameLine f g (after f at) (after g at')
     after_same = rw (s.2, s.3) (after_both s.0 s.1)
 
-    fault-same : (k : Kind) → lineFault k f at ≡ lineFault k g at'
-    unfolding lineFault
+    fault-same : (k : Kind) → line_fault k f at ≡ line_fault k g at'
+    unfolding line_fault
     fault-same k = ap₂ (λ (b : Bool) (bs : List ℕ). elim b [ true ↦ fault k bs | false ↦ absent k ]) there-same bytes_same
 
   pub skip-same : (k at at' : ℕ) → SameLine f g at at' → SameLine f g (skipped k f at) (skipped k g at')
@@ -105,7 +105,7 @@ module _ (f g : List ℕ) (e : lines_of f ≡ lines_of g) where
   walk_same [] at at' s = s
   walk_same (k ∷ ks) at at' s =
       subst (λ m. SameWalk f g (walk (k ∷ ks) f at) (elim (eqb m 0) [ true ↦ walk ks g (after g at') | false ↦ Failed (refusal m at') ]))
-      (fault-same at at' s k) (next-same (eqb (lineFault k f at) 0) _ at at' _ _ s (walk_same ks _ _ (after_same at at' s)))
+      (fault-same at at' s k) (next-same (eqb (line_fault k f at) 0) _ at at' _ _ s (walk_same ks _ _ (after_same at at' s)))
 
   rest_both : (k at at' : ℕ) → SameLine f g at at' → SameWalk f g (rest k f at) (rest k g at')
   unfolding rest
@@ -124,7 +124,7 @@ module _ (f g : List ℕ) (e : lines_of f ≡ lines_of g) where
       go false w w' v = s
 
   -- each file with as many lines as it has bytes
-  pub rest-same : (w w' : Walk) → SameWalk f g w w' → SameWalk f g (thenRest f w) (thenRest g w')
+  pub rest-same : (w w' : Walk) → SameWalk f g w w' → SameWalk f g (then_rest f w) (then_rest g w')
   rest-same (At at) (At at') s =
       let k = length f + length g in
       subst (λ w. SameWalk f g w (rest (length g) g at')) (rest-enough f k (length f) at (omega arith) (omega arith))
@@ -134,7 +134,7 @@ module _ (f g : List ℕ) (e : lines_of f ≡ lines_of g) where
   rest-same (Failed r) (Failed r') s = s
 
   -- where walks end, or were refused
-  pub place_same : (w w' : Walk) → SameWalk f g w w' → SameLine f g (placeOf w) (placeOf w')
+  pub place_same : (w w' : Walk) → SameWalk f g w w' → SameLine f g (place_of w) (place_of w')
   place_same (At at) (At at') s = s
   place_same (At at) (Failed r) s = absurd s
   place_same (Failed r) (At at) s = absurd s
@@ -144,4 +144,4 @@ module _ (f g : List ℕ) (e : lines_of f ≡ lines_of g) where
   unfolding rows_from
   rows_same zero at at' s = refl
   rows_same (suc k) at at' s =
-      ap₂ ◌∷◌ (ap rowOf (bytes_same at at' s)) (rows_same k (after f at) (after g at') (after_same at at' s))
+      ap₂ ◌∷◌ (ap row_of (bytes_same at at' s)) (rows_same k (after f at) (after g at') (after_same at at' s))

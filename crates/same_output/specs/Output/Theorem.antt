@@ -8,9 +8,9 @@ use Rattle.machine.specs.Machine.{opening}
 use Rattle.table_layout.specs.declared.Opened.{Opened}
 use Rattle.table_layout.specs.declared.Opened.TheVariants.{Found, Refused}
 use Rattle.table_lines.specs.Pieces.{lines_of}
-use Rattle.table_layout.specs.Layout.{mostBytes, opened_of}
-use Rattle.complete_tables.specs.Complete.{openedComplete}
-use Rattle.transcript.specs.Output.{interviewed, written, outputWith}
+use Rattle.table_layout.specs.Layout.{most_bytes, opened_of}
+use Rattle.complete_tables.specs.Complete.{opened_complete}
+use Rattle.transcript.specs.Output.{interviewed, written, output_with}
 use Rattle.same_lines.specs.Files.{SameAnswer}
 use Rattle.same_lines.specs.Files.Theorem.{same_lines}
 use Rattle.same_output.specs.Output.{SameWritten}
@@ -24,7 +24,7 @@ module _ (f g : List ℕ) (lent : Lent) where
   written_same (Refused r) (Found l) a = absurd a
   written_same (Refused r) (Refused r') a = inr (r, r', a, refl, refl)
 
-  pub same-output : length f ≤ mostBytes → length g ≤ mostBytes → lines_of f ≡ lines_of g
-      → SameWritten f g (outputWith lent f) (outputWith lent g)
-  unfolding outputWith
-  same-output h h' e = written_same (openedComplete f) (openedComplete g) (same_lines f g h h' e).opened-complete
+  pub same-output : length f ≤ most_bytes → length g ≤ most_bytes → lines_of f ≡ lines_of g
+      → SameWritten f g (output_with lent f) (output_with lent g)
+  unfolding output_with
+  same-output h h' e = written_same (opened_complete f) (opened_complete g) (same_lines f g h h' e).complete_opened

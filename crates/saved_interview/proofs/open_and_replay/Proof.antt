@@ -1,23 +1,23 @@
 -- A refused opening leaves everything; else what the replay says of its log decides.
 use mathlib.Core.Path.{◌≡◌}
 use borrow.Author.Rules.{rules}
-use Rattle.machine.specs.Calls.{openingFrom}
+use Rattle.machine.specs.Calls.{opening_from}
 use Rattle.session_opening.specs.declared.Opened.{Opened}
-use Rattle.session_opening.specs.Opening.{openingOf}
+use Rattle.session_opening.specs.Opening.{opening_of}
 use Rattle.saved_interview.specs.TakingUp.Theorem.{refused-outcome, replay-outcome}
 use Rattle.saved_interview.proofs.open_and_replay.Statement.{statement}
 use Rattle.saved_interview.proofs.open_and_replay.Tie as tie
 
-abbrev words-lent : tie.After-open → tie.After-slice-known2
-words-lent c = let d = c.before.before.before in d.before.before.before
+abbrev words_lent : tie.After-open → tie.After-slice-known2
+words_lent c = let d = c.before.before.before in d.before.before.before
 
 abbrev start : tie.After-open → tie.Start
-start c = (words-lent c).before.before
+start c = (words_lent c).before.before
 
 -- the machine's opening, by what the call gave
 opening : (c : tie.After-open) (x : Opened) → c.«open».result ≡ x
     → let a = (start c).args in
-    openingOf x a.rows.now a.list.now a.background.now ≡ openingFrom a.n a.used a.rows.now a.list.now a.background.now
+    opening_of x a.rows.now a.list.now a.background.now ≡ opening_from a.n a.used a.rows.now a.list.now a.background.now
 opening c x e = rw e at c.«open».ensures
 
 abbrev replayed : tie.After-after → tie.After-replay

@@ -1,4 +1,4 @@
--- Request 8/13 of the calls that run: `shown-results-whole` for two replays in turn, which leave what one interview leaves (`one-interview`),
+-- Request 8/13 of the calls that run: `shown-results-whole` for two replays in turn, which leave what one interview leaves (`one_interview`),
 -- `shown-in-log` for every two moments of one log. The contract of `replay` says that record and words hold the plain machine's state, and the
 -- answers' words are its answers; the rest is the machine's theorem.
 use Rattle.std.specs.Prelude.{◌≡◌, refl, ◌⊎◌, List, [], ◌∷◌, ◌++◌, ℕ, zero, suc, ◌*◌, ◌/◌, ◌≤◌, ◌<◌, length, get_or, take, drop, replicate}
@@ -15,30 +15,30 @@ use Rattle.demands.specs.ShownResults.Theorem.{request-8}
 use Rattle.answer_words.specs.declared.Answer.{Answer as Coded}
 use Rattle.answer_words.specs.Codes.{coded, code_of, answer_in}
 use Rattle.answer_words.specs.Codes.Laws.{words-tell}
-use Rattle.call_logs.specs.Replay.{replayCode, known, answersOf, logOf}
+use Rattle.call_logs.specs.Replay.{replay_code, known, answers_of, log_of}
 use Rattle.call_logs.specs.Replay.Loop.{past-trans}
-use Rattle.saved_interview.specs.Demand3Whole.{Interview, opening-state, end-state, script, rules}
+use Rattle.saved_interview.specs.Demand3Whole.{Interview, state_opened, end_state, script, rules}
 use Rattle.saved_interview.specs.Demand3Whole.Theorem.{demand-3-whole}
-use Rattle.saved_interview.specs.Trace.{log, logWordsOf}
+use Rattle.saved_interview.specs.Trace.{log, log_words_of}
 use Rattle.saved_interview.specs.Trace.Proof.{trace, every-log}
-use Rattle.saved_interview.specs.ShownResultsWhole.{Continued, later-state, OneInterview, ShownResultsWhole, moment, IsCall, wordsAt, ShownInLog}
+use Rattle.saved_interview.specs.ShownResultsWhole.{Continued, later_state, OneInterview, ShownResultsWhole, moment, IsCall, words_at, ShownInLog}
 
 module _ {n : ℕ} {background : List ℕ} (i : Interview n background) where
   -- the machine's theorem, from the opening
-  lasting : (calls more : List Call) → ShownResults (run (opening-state i) calls) (run (opening-state i) (calls ++ more))
-  lasting = request-8.every-moment n _ (rules i) _ (opening-state i) (sym i.opens)
+  lasting : (calls more : List Call) → ShownResults (run (state_opened i) calls) (run (state_opened i) (calls ++ more))
+  lasting = request-8.every_moment n _ (rules i) _ (state_opened i) (sym i.opens)
 
-  once : (calls more : List Call) (c : Call) → AnsweredOnce (run (opening-state i) calls) c (run (opening-state i) (calls ++ (c ∷ more)))
-  once = request-8.answered-once n _ (rules i) _ (opening-state i) (sym i.opens)
+  once : (calls more : List Call) (c : Call) → AnsweredOnce (run (state_opened i) calls) c (run (state_opened i) (calls ++ (c ∷ more)))
+  once = request-8.answered_once n _ (rules i) _ (state_opened i) (sym i.opens)
 
 -- ---- two replays in turn
 
 module _ {n : ℕ} {background : List ℕ} (i : Interview n background) (more : Continued i) where
   abbrev calls : List Call
-  calls = script i ++ known (logOf more.calls)
+  calls = script i ++ known (log_of more.calls)
 
-  ends : run (opening-state i) calls ≡ later-state i more
-  ends = run-append (opening-state i) (script i) (known (logOf more.calls)) ∙ ap (λ s. run s (known (logOf more.calls))) (sym i.made.holds) ∙ sym more.made.holds
+  ends : run (state_opened i) calls ≡ later_state i more
+  ends = run-append (state_opened i) (script i) (known (log_of more.calls)) ∙ ap (λ s. run s (known (log_of more.calls))) (sym i.made.holds) ∙ sym more.made.holds
 
   -- one interview with the words of all calls, lent as many words for their answers
   both : Interview n background
@@ -46,43 +46,43 @@ module _ {n : ℕ} {background : List ℕ} (i : Interview n background) (more : 
     used = i.used;
     rows = i.rows;
     list = i.list;
-    answers = replicate (length (logWordsOf calls)) 0;
-    calls = logWordsOf calls;
+    answers = replicate (length (log_words_of calls)) 0;
+    calls = log_words_of calls;
     start = i.start;
     end = more.end;
-    rows-after = more.rows-after;
-    list-after = more.list-after;
-    answers-after = answersOf (opening-state i) (logOf (logWordsOf calls)) ++ drop (length (logWordsOf calls) / 4 * 3) (replicate (length (logWordsOf calls)) 0);
+    rows_later = more.rows_later;
+    list_later = more.list_later;
+    answers_after = answers_of (state_opened i) (log_of (log_words_of calls)) ++ drop (length (log_words_of calls) / 4 * 3) (replicate (length (log_words_of calls)) 0);
     opens = i.opens;
     made = record {
-      holds = sym ends ∙ ap (run (opening-state i)) (sym (every-log calls));
+      holds = sym ends ∙ ap (run (state_opened i)) (sym (every-log calls));
       answers = refl;
       rows = past-trans i.made.rows more.made.rows;
       list = past-trans i.made.list more.made.list;
     };
   }
 
-  pub one-interview : OneInterview i more
+  pub one_interview : OneInterview i more
   unfolding both
-  one-interview = record {
+  one_interview = record {
     both = both;
     used = refl;
     rows = refl;
     list = refl;
     start = refl;
     calls = every-log calls;
-    room = omega (arith, length-replicate {A = ℕ} (length (logWordsOf calls)) 0);
+    room = omega (arith, length-replicate {A = ℕ} (length (log_words_of calls)) 0);
     end = refl;
-    rows-after = refl;
-    list-after = refl;
+    rows_later = refl;
+    list_later = refl;
   }
 
   pub shown-results-whole : ShownResultsWhole i more
   shown-results-whole = record {
-    moments = subst (λ s. ShownResults (end-state i) s) ends
-        (subst (λ s. ShownResults s (run (opening-state i) calls)) (sym i.made.holds) (lasting i (script i) (known (logOf more.calls))));
+    moments = subst (λ s. ShownResults (end_state i) s) ends
+        (subst (λ s. ShownResults s (run (state_opened i) calls)) (sym i.made.holds) (lasting i (script i) (known (log_of more.calls))));
     shortest = (demand-3-whole i).shortest;
-    one-interview = one-interview;
+    one_interview = one_interview;
   }
 
 -- ---- the calls of a log
@@ -115,38 +115,38 @@ module _ {n : ℕ} {background : List ℕ} (i : Interview n background) where
   two-moments : (j k : ℕ) → j ≤ k → ShownResults (moment i j) (moment i k)
   two-moments j k h =
       let t = more-known (log i) j k h in
-      subst (λ l. ShownResults (moment i j) (run (opening-state i) l)) (sym t.1) (lasting i (known (take j (log i))) t.0)
+      subst (λ l. ShownResults (moment i j) (run (state_opened i) l)) (sym t.1) (lasting i (known (take j (log i))) t.0)
 
-  answered-once : (j k : ℕ) → j < k → (c : Call) → IsCall i j c → AnsweredOnce (moment i j) c (moment i k)
-  answered-once j k h c e =
+  answered_once : (j k : ℕ) → j < k → (c : Call) → IsCall i j c → AnsweredOnce (moment i j) c (moment i k)
+  answered_once j k h c e =
       let t = more-known (log i) (suc j) k (omega arith) in
       let before = known (take j (log i)) in
       let calls : known (take k (log i)) ≡ before ++ (c ∷ t.0) =
       t.1 ∙ ap (λ l. l ++ t.0) (next_known (log i) j c e) ∙ append_assoc before (c ∷ []) t.0 in
-      subst (λ l. AnsweredOnce (moment i j) c (run (opening-state i) l)) (sym calls) (once i before t.0 c)
+      subst (λ l. AnsweredOnce (moment i j) c (run (state_opened i) l)) (sym calls) (once i before t.0 c)
 
   -- the words of a call are those of the machine's answer at its moment
-  words-say : (k : ℕ) (c : Call) → IsCall i k c → wordsAt i k ≡ code_of (perform (moment i k) c).answer
-  words-say k c e = ((trace i).each k (call_below (log i) k c e)).answered ∙ ap (replayCode (moment i k)) e
+  words-say : (k : ℕ) (c : Call) → IsCall i k c → words_at i k ≡ code_of (perform (moment i k) c).answer
+  words-say k c e = ((trace i).each k (call_below (log i) k c e)).answered ∙ ap (replay_code (moment i k)) e
 
   -- so they tell what it was
-  said : (k : ℕ) (c : Call) (x : Coded) → IsCall i k c → wordsAt i k ≡ x → (perform (moment i k) c).answer ≡ answer_in x
-  said k c x e h = words-tell (moment i k) c (wordsAt i k) (words-say k c e) ∙ ap answer_in h
+  said : (k : ℕ) (c : Call) (x : Coded) → IsCall i k c → words_at i k ≡ x → (perform (moment i k) c).answer ≡ answer_in x
+  said k c x e h = words-tell (moment i k) c (words_at i k) (words-say k c e) ∙ ap answer_in h
 
   pub shown-in-log : ShownInLog i
   unfolding answer_in
   shown-in-log = record {
     moments = two-moments;
-    settles = λ k. request-8.settles n _ (rules i) _ (opening-state i) (sym i.opens) (known (take k (log i)));
-    answered-once = answered-once;
-    follows-again = λ r j k h a b x. words-say k (follow r) b ∙ ap code_of ((two-moments j k h).answers.follows-again r (said j (follow r) (coded 104 1 0) a x));
-    refuted-again = λ r j k p h a b x.
-        let t = (two-moments j k h).answers.refuted-again r p (said j (refute r) (coded 105 p 0) a x) in
+    settles = λ k. request-8.settles n _ (rules i) _ (state_opened i) (sym i.opens) (known (take k (log i)));
+    answered_once = answered_once;
+    follows_again = λ r j k h a b x. words-say k (follow r) b ∙ ap code_of ((two-moments j k h).answers.follows_again r (said j (follow r) (coded 104 1 0) a x));
+    refuted_again = λ r j k p h a b x.
+        let t = (two-moments j k h).answers.refuted_again r p (said j (refute r) (coded 105 p 0) a x) in
         (t.0, t.1, words-say k (refute r) b ∙ ap code_of t.2);
-    never-both-in-log = λ r j k p a b x y.
+    never_both_in_log = λ r j k p a b x y.
         never r j k p (said j (follow r) (coded 104 1 0) a x) (said k (refute r) (coded 105 p 0) b y) (lt-or-le j k);
   }
     where
       never : (r : Implication ℕ) (j k p : ℕ) → SaysFollows (moment i j) r → SaysRefuted (moment i k) r p → (j < k) ⊎ (k ≤ j) → ⊥
-      never r j k p f g (inl h) = (two-moments j k (omega arith)).answers.not-refuted-later r p f g
-      never r j k p f g (inr h) = (two-moments k j h).answers.not-followed-later r p g f
+      never r j k p f g (inl h) = (two-moments j k (omega arith)).answers.not_refuted_later r p f g
+      never r j k p f g (inr h) = (two-moments k j h).answers.not_followed_later r p g f

@@ -2,13 +2,13 @@
 use Rattle.std.specs.Prelude.{◌≡◌, refl, Bool, true, false, ◌&&◌, eqb}
 use Rattle.std.proofs.Common.{sym, true≢false, eqb-true}
 use Rattle.session.specs.declared.Session.{Session}
-use Rattle.session.specs.Records.{sameSession}
+use Rattle.session.specs.Records.{same_session}
 
 both_true : (a b : Bool) → (a && b) ≡ true → (a ≡ true) × (b ≡ true)
 both_true true b e = (refl, e)
 both_true false b e = absurd (true≢false (sym e))
 
-pub same-equal : (a b : Session) → sameSession a b ≡ true → a ≡ b
+pub same-equal : (a b : Session) → same_session a b ≡ true → a ≡ b
 same-equal a b e =
     let n = both_true _ _ e in
     let rows = both_true _ _ n.1 in

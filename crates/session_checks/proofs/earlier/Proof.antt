@@ -1,16 +1,16 @@
 -- Each arm is that of the definition.
 use mathlib.Core.Path.{sym, ap}
 use borrow.Author.Rules.{rules}
-use Rattle.size_checks.specs.Verdicts.{verdictOf}
+use Rattle.size_checks.specs.Verdicts.{verdict_of}
 use Rattle.session_checks.specs.Checked.{first_of}
 use Rattle.session_checks.proofs.earlier.Statement.{statement}
 use Rattle.session_checks.proofs.earlier.Tie as tie
 
 returns : tie.Need-returns
-returns c = sym (ap (λ v. first_of (verdictOf v) (verdictOf c.before.before.before.args.second)) c.before.first.given.1)
+returns c = sym (ap (λ v. first_of (verdict_of v) (verdict_of c.before.before.before.args.second)) c.before.first.given.1)
 
 returns-2 : tie.Need-returns-2
-returns-2 c = sym (ap (λ v. first_of (verdictOf v) (verdictOf c.before.before.args.second)) c.enum_told.given.1)
+returns-2 c = sym (ap (λ v. first_of (verdict_of v) (verdict_of c.before.before.args.second)) c.enum_told.given.1)
 
 pub earlier-spec : {M : Type 1} → statement M
 earlier-spec = tie.close (tie.spec (λ c. search rules) (λ c. search rules) returns returns-2)

@@ -6,13 +6,13 @@ use borrow.Author.Rules.{rules}
 use Rattle.implication.specs.Closure.{implication}
 use Rattle.context.specs.Objects.{Object, object}
 use Rattle.session.specs.declared.Refusal.{Refusal}
-use Rattle.machine.specs.Checks.{State, firstFailing, sessionChecks, filingChecks}
+use Rattle.machine.specs.Checks.{State, first_failing, session_checks, filing_checks}
 use Rattle.machine.specs.Checks.Laws.{failing-first, unasked}
-use Rattle.machine.specs.Machine.{file, turn, refused, checksOf, perform}
+use Rattle.machine.specs.Machine.{file, turn, refused, checks_of, perform}
 use Rattle.machine.specs.Machine.Laws.{perform-refused}
 use Rattle.machine.specs.Calls.{state_of}
 use Rattle.size_checks.specs.declared.Verdict.{Verdict}
-use Rattle.size_checks.specs.Verdicts.{verdictOf}
+use Rattle.size_checks.specs.Verdicts.{verdict_of}
 use Rattle.session_replies.specs.Answers.Laws.{refused-turns}
 use Rattle.checked_filing.specs.Checked.Laws.{checked-turns}
 use Rattle.session_filing.proofs.file_row.Statement.{statement}
@@ -30,16 +30,16 @@ abbrev offered : tie.After-check-session → Object
 offered c = object (start c).args.yes (start c).args.no
 
 -- what checks 1 to 7 said
-said : (c : tie.After-check-session) (x : Verdict) → c.check-session.result ≡ x → firstFailing (sessionChecks (state c) []) ≡ verdictOf x
+said : (c : tie.After-check-session) (x : Verdict) → c.check-session.result ≡ x → first_failing (session_checks (state c) []) ≡ verdict_of x
 said c x e =
-    let v : verdictOf c.check-session.result ≡ firstFailing (sessionChecks (state c) (implication 0 0 ∷ [])) = c.check-session.ensures in
-    sym (sym (ap verdictOf e) ∙ v ∙ unasked (state c))
+    let v : verdict_of c.check-session.result ≡ first_failing (session_checks (state c) (implication 0 0 ∷ [])) = c.check-session.ensures in
+    sym (sym (ap verdict_of e) ∙ v ∙ unasked (state c))
 
-refusing : (c : tie.After-check-session) (r : Refusal) → firstFailing (sessionChecks (state c) []) ≡ some r
+refusing : (c : tie.After-check-session) (r : Refusal) → first_failing (session_checks (state c) []) ≡ some r
     → perform (state c) (file (offered c)) ≡ turn (refused r) (state c)
-unfolding checksOf
+unfolding checks_of
 refusing c r e =
-    perform-refused (state c) (file (offered c)) r (failing-first (sessionChecks (state c) []) (filingChecks (state c) (offered c)) r e)
+    perform-refused (state c) (file (offered c)) r (failing-first (session_checks (state c) []) (filing_checks (state c) (offered c)) r e)
 
 returns : tie.Need-returns
 returns c =

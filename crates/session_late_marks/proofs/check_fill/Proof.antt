@@ -13,12 +13,12 @@ use Rattle.implication.specs.Pairs.Laws.{length_pairs}
 use Rattle.implication.specs.Closure.{implication}
 use Rattle.context.specs.Objects.{Object, object, contradicts}
 use Rattle.context.specs.Filling.{joined, reverses}
-use Rattle.machine.specs.Checks.{State, force, Check, check, badRow, firstFailing, sessionChecks, fillChecks}
+use Rattle.machine.specs.Checks.{State, force, Check, check, bad_row, first_failing, session_checks, fill_checks}
 use Rattle.machine.specs.Checks.Laws.{passed, failing-append, failing-first, failing-here, failing-later, unasked}
-use Rattle.machine.specs.Machine.{fill, checksOf}
+use Rattle.machine.specs.Machine.{fill, checks_of}
 use Rattle.machine.specs.Calls.{state_of}
 use Rattle.size_checks.specs.declared.Verdict.{Verdict}
-use Rattle.size_checks.specs.Verdicts.{verdictOf}
+use Rattle.size_checks.specs.Verdicts.{verdict_of}
 use Rattle.session_late_marks.specs.Marks.Laws.{used-room, row_words}
 use Rattle.session_late_marks.proofs.check_fill.Statement.{statement}
 use Rattle.session_late_marks.proofs.check_fill.Tie as tie
@@ -33,38 +33,38 @@ abbrev offered : tie.After-check-session → Object
 offered c = object (start c).args.yes (start c).args.no
 
 abbrev own : tie.After-check-session → List Check
-own c = fillChecks (state c) (start c).args.row (offered c)
+own c = fill_checks (state c) (start c).args.row (offered c)
 
 -- what checks 1 to 7 said
-said : (c : tie.After-check-session) (x : Verdict) → c.check-session.result ≡ x → firstFailing (sessionChecks (state c) []) ≡ verdictOf x
+said : (c : tie.After-check-session) (x : Verdict) → c.check-session.result ≡ x → first_failing (session_checks (state c) []) ≡ verdict_of x
 said c x e =
-    let v : verdictOf c.check-session.result ≡ firstFailing (sessionChecks (state c) (implication 0 0 ∷ [])) = c.check-session.ensures in
-    sym (sym (ap verdictOf e) ∙ v ∙ unasked (state c))
+    let v : verdict_of c.check-session.result ≡ first_failing (session_checks (state c) (implication 0 0 ∷ [])) = c.check-session.ensures in
+    sym (sym (ap verdict_of e) ∙ v ∙ unasked (state c))
 
 returns : tie.Need-returns
-unfolding checksOf
+unfolding checks_of
 returns c =
     let d = c.before.before.before in
-    sym (failing-first (sessionChecks (state d) []) (own d) _ (said d _ c.before.verdict.given.1))
+    sym (failing-first (session_checks (state d) []) (own d) _ (said d _ c.before.verdict.given.1))
 
 -- they pass, and the filling's own decide
 abbrev checked : tie.After-enum-told → tie.After-check-session
 checked c = c.before.before
 
-fine : (c : tie.After-enum-told) → firstFailing (sessionChecks (state (checked c)) []) ≡ none
+fine : (c : tie.After-enum-told) → first_failing (session_checks (state (checked c)) []) ≡ none
 fine c = said (checked c) _ c.enum_told.given.1
 
 after-seven : (c : tie.After-enum-told)
     → let d = checked c in
-    firstFailing (checksOf (state d) (fill (start d).args.row (offered d))) ≡ firstFailing (own d)
-unfolding checksOf
-after-seven c = let d = checked c in failing-append (sessionChecks (state d) []) (own d) (passed _ (fine c))
+    first_failing (checks_of (state d) (fill (start d).args.row (offered d))) ≡ first_failing (own d)
+unfolding checks_of
+after-seven c = let d = checked c in failing-append (session_checks (state d) []) (own d) (passed _ (fine c))
 
 abbrev told : tie.After-struct-known → tie.After-enum-told
 told c = c.before
 
 returns-2 : tie.Need-returns-2
-unfolding fillChecks
+unfolding fill_checks
 returns-2 c =
     let t = told c.before.before in
     let d = checked t in
@@ -107,20 +107,20 @@ read-known-no c = omega (arith, room c.before.before)
 abbrev rest : tie.After-check-session → Object → List Check
 rest c o =
     let s = state c in
-    check 9 (badRow s.n (offered c)) 0 ∷ check 33 (reverses o (offered c)) 0 ∷ check 11 (contradicts (force s) (joined o (offered c))) 0 ∷ []
+    check 9 (bad_row s.n (offered c)) 0 ∷ check 33 (reverses o (offered c)) 0 ∷ check 11 (contradicts (force s) (joined o (offered c))) 0 ∷ []
 
 returns-3 : tie.Need-returns-3
-unfolding fillChecks
+unfolding fill_checks
 returns-3 c =
     let e = c.before.before.before in
     let t = in_use e in
     let d = checked t in
     let a = (start d).args in
     let ws = a.rows.now in
-    let read : verdictOf c.check-added-marks.result ≡ firstFailing (rest d (object (get_or ws (a.row * 2) 0) (get_or ws (a.row * 2 + 1) 0))) =
+    let read : verdict_of c.check-added-marks.result ≡ first_failing (rest d (object (get_or ws (a.row * 2) 0) (get_or ws (a.row * 2 + 1) 0))) =
     c.check-added-marks.ensures in
     let used : leb (length (state d).rows) a.row ≡ false = rw length_pairs (lt-leb a.session.rows a.row e.if1.false) in
-    read ∙ ap (λ o. firstFailing (rest d o)) (sym (row_words a.session ws a.list.now a.background.now a.row e.if1.false))
+    read ∙ ap (λ o. first_failing (rest d o)) (sym (row_words a.session ws a.list.now a.background.now a.row e.if1.false))
     ∙ sym (after-seven t ∙ failing-later _ _ used)
 
 pub check-fill-spec : {M : Type 1} → statement M

@@ -6,13 +6,13 @@ use Prim.Native.Nat.{ℕ, ◌+◌, ◌*◌, ◌<◌}
 use lib.ListN.{length}
 use borrow.Author.Rules.{rules}
 use Rattle.context.specs.Objects.{object}
-use Rattle.machine.specs.Checks.{State, firstFailing}
-use Rattle.machine.specs.Machine.{Call, fill, taken, checksOf}
+use Rattle.machine.specs.Checks.{State, first_failing}
+use Rattle.machine.specs.Machine.{Call, fill, taken, checks_of}
 use Rattle.machine.specs.Machine.Laws.{perform-refused}
 use Rattle.machine.specs.Calls.{state_of, MadeFrom}
 use Rattle.machine.specs.Calls.Laws.{performs}
 use Rattle.size_checks.specs.declared.Verdict.{Verdict}
-use Rattle.size_checks.specs.Verdicts.{verdictOf}
+use Rattle.size_checks.specs.Verdicts.{verdict_of}
 use Rattle.session_late_marks.specs.Marks.Laws.{fill-room, fill-made}
 use Rattle.session_late_marks.proofs.fill_row.Statement.{statement}
 use Rattle.session_late_marks.proofs.fill_row.Tie as tie
@@ -27,8 +27,8 @@ abbrev call : tie.After-check-fill → Call
 call c = let a = (start c).args in fill a.row (object a.yes a.no)
 
 -- what the checks said
-said : (c : tie.After-check-fill) (x : Verdict) → c.check-fill.result ≡ x → firstFailing (checksOf (state c) (call c)) ≡ verdictOf x
-said c x e = sym (sym (ap verdictOf e) ∙ c.check-fill.ensures)
+said : (c : tie.After-check-fill) (x : Verdict) → c.check-fill.result ≡ x → first_failing (checks_of (state c) (call c)) ≡ verdict_of x
+said c x e = sym (sym (ap verdict_of e) ∙ c.check-fill.ensures)
 
 returns : tie.Need-returns
 returns c =
@@ -39,7 +39,7 @@ returns c =
 abbrev checked : tie.After-enum-told → tie.After-check-fill
 checked c = c.before.before
 
-passed : (c : tie.After-enum-told) → firstFailing (checksOf (state (checked c)) (call (checked c))) ≡ none
+passed : (c : tie.After-enum-told) → first_failing (checks_of (state (checked c)) (call (checked c))) ≡ none
 passed c = said (checked c) _ c.enum_told.given.1
 
 room : (c : tie.After-enum-told) → let a = (start (checked c)).args in a.row * 2 + 1 < length a.rows.now

@@ -8,7 +8,7 @@ use Rattle.demands.specs.InTurn.Theorem.{no-refused, no-filed}
 use Rattle.machine.specs.Calls.{state_of}
 use Rattle.machine.specs.Calls.Laws.{as_call}
 use Rattle.session_test.specs.declared.Testing.{Testing}
-use Rattle.session_test.specs.Answers.{testingAnswer}
+use Rattle.session_test.specs.Answers.{testing_answer}
 use Rattle.session_replies.specs.Answers.Laws.{refused-turns}
 use Rattle.checked_filing.specs.Checked.Laws.{checked-turns}
 use Rattle.session_no.proofs.reject.Statement.{statement}
@@ -26,8 +26,8 @@ abbrev offered : tie.After-test-row → Object
 offered c = object (start c).args.yes (start c).args.no
 
 -- what the test answered
-answered : (c : tie.After-test-row) (x : Testing) → c.test-row.result ≡ x → (perform (state c) (test (offered c))).answer ≡ testingAnswer x
-answered c x e = sym c.test-row.ensures.answer ∙ ap testingAnswer e
+answered : (c : tie.After-test-row) (x : Testing) → c.test-row.result ≡ x → (perform (state c) (test (offered c))).answer ≡ testing_answer x
+answered c x e = sym c.test-row.ensures.answer ∙ ap testing_answer e
 
 returns : tie.Need-returns
 returns c =

@@ -3,14 +3,14 @@ use mathlib.Core.Path.{◌≡◌, sym, ap, ◌∙◌}
 use mathlib.Core.List.{[]}
 use lib.ListN.{length}
 use borrow.Author.Rules.{rules}
-use Rattle.implication.specs.Closure.{allImplications}
-use Rattle.context.specs.Objects.{objectsOf}
-use Rattle.machine.specs.Checks.{State, firstFailing, sessionChecks}
+use Rattle.implication.specs.Closure.{all_implications}
+use Rattle.context.specs.Objects.{objects_of}
+use Rattle.machine.specs.Checks.{State, first_failing, session_checks}
 use Rattle.machine.specs.Checks.Laws.{unasked}
-use Rattle.machine.specs.Machine.{opened, opening, openingState}
+use Rattle.machine.specs.Machine.{opened, opening, opening_state}
 use Rattle.machine.specs.Calls.{state_of}
-use Rattle.size_checks.specs.Verdicts.{verdictOf}
-use Rattle.session_opening.specs.Opening.Laws.{opening-state}
+use Rattle.size_checks.specs.Verdicts.{verdict_of}
+use Rattle.session_opening.specs.Opening.Laws.{state_opened}
 use Rattle.session_opening.proofs.«open».Statement.{statement}
 use Rattle.session_opening.proofs.«open».Tie as tie
 
@@ -21,8 +21,8 @@ start c = c.before.before.before.before
 abbrev state : tie.After-closure-of → State
 state c =
     let a = (start c).args in
-    openingState a.n (record { rows = length a.rows.now; list = length a.list.now; background = length a.background.now })
-    (allImplications a.background.now) (objectsOf a.used a.rows.now)
+    opening_state a.n (record { rows = length a.rows.now; list = length a.list.now; background = length a.background.now })
+    (all_implications a.background.now) (objects_of a.used a.rows.now)
 
 -- what the record holds is that
 held : (c : tie.After-closure-of)
@@ -31,23 +31,23 @@ held : (c : tie.After-closure-of)
     ≡ state c
 held c =
     let a = (start c).args in
-    opening-state a.n a.used a.rows.now a.list.now a.background.now c.closure-of.result c.closure-of.ensures
+    state_opened a.n a.used a.rows.now a.list.now a.background.now c.closure-of.result c.closure-of.ensures
 
 -- and the verdict is that of the checks on it
-decided : (c : tie.After-check-session) → verdictOf c.check-session.result ≡ firstFailing (sessionChecks (state c.before) [])
-decided c = c.check-session.ensures ∙ unasked _ ∙ ap (λ s. firstFailing (sessionChecks s [])) (held c.before)
+decided : (c : tie.After-check-session) → verdict_of c.check-session.result ≡ first_failing (session_checks (state c.before) [])
+decided c = c.check-session.ensures ∙ unasked _ ∙ ap (λ s. first_failing (session_checks s [])) (held c.before)
 
 returns : tie.Need-returns
 unfolding opening
 returns c =
     let d = c.before.before.before in
-    rw (sym (decided d) ∙ ap verdictOf c.before.verdict.given.1, opening)
+    rw (sym (decided d) ∙ ap verdict_of c.before.verdict.given.1, opening)
 
 returns-2 : tie.Need-returns-2
 unfolding opening
 returns-2 c =
     let d = c.before.before in
-    rw (sym (decided d) ∙ ap verdictOf c.enum_told.given.1, opening) (ap opened (held d.before))
+    rw (sym (decided d) ∙ ap verdict_of c.enum_told.given.1, opening) (ap opened (held d.before))
 
 pub open_spec : {M : Type 1} → statement M
 open_spec =

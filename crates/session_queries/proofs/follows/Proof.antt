@@ -4,12 +4,12 @@ use borrow.Author.Rules.{rules}
 use Rattle.session.specs.declared.Refusal.{Refusal}
 use Rattle.implication.specs.Closure.{implication}
 use Rattle.machine.specs.Checks.{State}
-use Rattle.machine.specs.Machine.{Call, turn, follow, followed, refused, checksOf, perform}
+use Rattle.machine.specs.Machine.{Call, turn, follow, followed, refused, checks_of, perform}
 use Rattle.machine.specs.Machine.Laws.{perform-refused}
 use Rattle.size_checks.specs.declared.Verdict.TheVariants.{Refused}
 use Rattle.machine.specs.Calls.{state_of}
 use Rattle.machine.specs.Calls.Laws.{performs}
-use Rattle.size_checks.specs.Verdicts.{verdictOf}
+use Rattle.size_checks.specs.Verdicts.{verdict_of}
 use Rattle.session_queries.specs.Answers.Laws.{follow-answers}
 use Rattle.session_queries.proofs.follows.Statement.{statement}
 use Rattle.session_queries.proofs.follows.Tie as tie
@@ -26,8 +26,8 @@ call c = let a = (start c).args in follow (implication a.premise a.conclusion)
 
 -- where it is refused
 refusing : (c : tie.After-check-session) (r : Refusal) → c.check-session.result ≡ Refused r → perform (state c) (call c) ≡ turn (refused r) (state c)
-unfolding checksOf
-refusing c r e = perform-refused (state c) (call c) r (sym c.check-session.ensures ∙ ap verdictOf e)
+unfolding checks_of
+refusing c r e = perform-refused (state c) (call c) r (sym c.check-session.ensures ∙ ap verdict_of e)
 
 -- what it does where the checks pass: it answers with the result of the test
 abbrev checked : tie.After-follows-from → tie.After-check-session

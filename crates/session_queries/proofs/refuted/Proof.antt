@@ -7,12 +7,12 @@ use Rattle.implication.specs.Pairs.Laws.{length_pairs}
 use Rattle.implication.specs.Closure.{implication}
 use Rattle.context.specs.Objects.{object}
 use Rattle.machine.specs.Checks.{State}
-use Rattle.machine.specs.Machine.{Call, turn, refute, refutedAt, refused, checksOf, perform}
+use Rattle.machine.specs.Machine.{Call, turn, refute, refuted_at, refused, checks_of, perform}
 use Rattle.machine.specs.Machine.Laws.{perform-refused}
 use Rattle.size_checks.specs.declared.Verdict.TheVariants.{Refused}
 use Rattle.machine.specs.Calls.{state_of}
 use Rattle.machine.specs.Calls.Laws.{performs}
-use Rattle.size_checks.specs.Verdicts.{verdictOf}
+use Rattle.size_checks.specs.Verdicts.{verdict_of}
 use Rattle.session_queries.specs.Answers.Laws.{refute-answers}
 use Rattle.session_queries.proofs.refuted.Statement.{statement}
 use Rattle.session_queries.proofs.refuted.Tie as tie
@@ -29,8 +29,8 @@ call c = let a = (start c).args in refute (implication a.premise a.conclusion)
 
 -- where it is refused
 refusing : (c : tie.After-check-session) (r : Refusal) → c.check-session.result ≡ Refused r → perform (state c) (call c) ≡ turn (refused r) (state c)
-unfolding checksOf
-refusing c r e = perform-refused (state c) (call c) r (sym c.check-session.ensures ∙ ap verdictOf e)
+unfolding checks_of
+refusing c r e = perform-refused (state c) (call c) r (sym c.check-session.ensures ∙ ap verdict_of e)
 
 -- what it does where the checks pass: it answers with the place that the search gives
 abbrev checked : tie.After-first-refuting → tie.After-check-session
@@ -38,7 +38,7 @@ checked c = c.before.before.before
 
 accepted : (c : tie.After-first-refuting)
     → let d = checked c in
-    perform (state d) (call d) ≡ turn (refutedAt c.first-refuting.result (start d).args.session.rows) (state d)
+    perform (state d) (call d) ≡ turn (refuted_at c.first-refuting.result (start d).args.session.rows) (state d)
 accepted c =
     let d = checked c in
     let a = (start d).args in
@@ -49,12 +49,12 @@ returns : tie.Need-returns
 returns c = performs (refusing c.before.before.before _ c.before.verdict.given.1) refl refl
 
 returns-2 : tie.Need-returns-2
-unfolding refutedAt
-returns-2 c = performs (accepted c.before ∙ rw (refutedAt, lt-ltb _ _ c.if1.true)) refl refl
+unfolding refuted_at
+returns-2 c = performs (accepted c.before ∙ rw (refuted_at, lt-ltb _ _ c.if1.true)) refl refl
 
 returns-3 : tie.Need-returns-3
-unfolding refutedAt
-returns-3 c = performs (accepted c.before ∙ rw (refutedAt, le-ltb _ _ c.if1.false)) refl refl
+unfolding refuted_at
+returns-3 c = performs (accepted c.before ∙ rw (refuted_at, le-ltb _ _ c.if1.false)) refl refl
 
 pub refuted-spec : {M : Type 1} → statement M
 refuted-spec =

@@ -6,7 +6,7 @@ use Rattle.machine.specs.Machine.{step, perform}
 use Rattle.machine.specs.Calls.{state_of}
 use Rattle.machine.specs.Calls.Laws.{performs, turns}
 use Rattle.standing.specs.declared.Standing.{Standing}
-use Rattle.session_steps.specs.Answers.Laws.{stepFrom, step-found, step-moved}
+use Rattle.session_steps.specs.Answers.Laws.{step_from, step-found, step-moved}
 use Rattle.session_steps.proofs.make_step.Statement.{statement}
 use Rattle.session_steps.proofs.make_step.Tie as tie
 
@@ -17,8 +17,8 @@ abbrev state : tie.After-find-standing → State
 state c = let a = (start c).args in state_of a.session a.rows.now a.list.now a.background.now
 
 -- the machine's step, by what was found
-turned : (c : tie.After-find-standing) (x : Standing) → c.find-standing.result ≡ x → perform (state c) step ≡ stepFrom (state c) x
-turned c x e = step-found (state c) ∙ ap (stepFrom (state c)) (sym c.find-standing.ensures ∙ e)
+turned : (c : tie.After-find-standing) (x : Standing) → c.find-standing.result ≡ x → perform (state c) step ≡ step_from (state c) x
+turned c x e = step-found (state c) ∙ ap (step_from (state c)) (sym c.find-standing.ensures ∙ e)
 
 returns : tie.Need-returns
 returns c = turns (performs (turned c.before.before.before _ c.before.standing.given.1) refl refl) refl

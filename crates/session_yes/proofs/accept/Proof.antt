@@ -8,13 +8,13 @@ use lib.ListN.{length, length-set}
 use borrow.Author.Rules.{rules}
 use Rattle.implication.specs.Pairs.Laws.{length_pairs}
 use Rattle.implication.specs.Closure.{implication}
-use Rattle.machine.specs.Checks.{State, firstFailing}
-use Rattle.machine.specs.Machine.{accept, taken, turn, afterYes, checksOf, performed, perform}
+use Rattle.machine.specs.Checks.{State, first_failing}
+use Rattle.machine.specs.Machine.{accept, taken, turn, after_yes, checks_of, performed, perform}
 use Rattle.machine.specs.Machine.Laws.{perform-accepted, perform-refused}
 use Rattle.machine.specs.Calls.{state_of}
 use Rattle.machine.specs.Calls.Laws.{performs, turns}
 use Rattle.standing.specs.declared.Question.{Question}
-use Rattle.standing.specs.Standings.{questionOf}
+use Rattle.standing.specs.Standings.{question_of}
 use Rattle.reply_checks.specs.declared.Asking.{Asking}
 use Rattle.reply_checks.specs.Outcomes.{asking}
 use Rattle.reply_checks.specs.Outcomes.Laws.{asking-question, asking-refused}
@@ -42,7 +42,7 @@ abbrev found : tie.After-known-told → Question
 found c = c.before.asking.given.0.0
 
 -- it is the machine's, and the checks passed
-passed : (c : tie.After-known-told) → let s = state (checked c) in (found c ≡ questionOf s) × (firstFailing (checksOf s accept) ≡ none)
+passed : (c : tie.After-known-told) → let s = state (checked c) in (found c ≡ question_of s) × (first_failing (checks_of s accept) ≡ none)
 passed c = asking-question (state (checked c)) accept (found c) (outcome (checked c) _ c.before.asking.given.1)
 
 -- so there is a place
@@ -88,7 +88,7 @@ add-t19 : tie.Need-overflow-add-t19
 add-t19 c = omega (arith, room c.before.before)
 
 -- the turn of the machine, and what record and words then hold
-turned : (c : tie.After-known-told) → let s = state (checked c) in perform s accept ≡ turn taken (afterYes s)
+turned : (c : tie.After-known-told) → let s = state (checked c) in perform s accept ≡ turn taken (after_yes s)
 unfolding performed
 turned c = perform-accepted (state (checked c)) accept (passed c).1
 

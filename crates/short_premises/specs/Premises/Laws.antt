@@ -1,7 +1,7 @@
 -- How the list of premises is made, attribute by attribute (`pairs-step`, `pairs_end`, `premises-step`, `premises-end`), and computed
 -- (`cases`). Its members are {i} and {i, j}, for attributes i and j above i below n (`listed`, `listed-there`); these are the sets of M with
 -- one or two attributes (`led-short`, `led-within`, `short-led`). Each stands before all later ones in the lectic order (`sorted`), so at
--- one place only (`places-once`). Two lists in this order with the same members are the same (`same-list`). How many they are
+-- one place only (`places-once`). Two lists in this order with the same members are the same (`same_list`). How many they are
 -- (`below_length`).
 use Rattle.std.specs.Prelude.{◌≡◌, refl, ◌⊎◌, ℕ, zero, suc, ◌+◌, ◌-◌, ◌*◌, ◌^◌, ◌≤◌, ◌<◌, length, get_or}
 use Rattle.std.proofs.Common.{sym, ap, ap₂, ◌∙◌, subst, inl, inr, ⊎_elim, mod-eq_of_lt, mul-suc, suc-mul, arith, length-append, lt-ltb, le-ltb}
@@ -15,32 +15,32 @@ use Rattle.attribute_set.specs.Sets.{digit, In, Sub, full}
 use Rattle.attribute_set.specs.Sets.Laws.{lt-or-le, full-member, member-full, sub-antisym}
 use Rattle.attribute_set.specs.Lectic.{Before, raise}
 use Rattle.attribute_set.specs.Lectic.Laws.{before-irreflexive, before-trans, raise-low, raise-at, raise-high, single-at, single-low, single-high, single-only}
-use Rattle.short_premises.specs.Premises.{pairsWith, premisesBelow, premises, OneOrTwo}
+use Rattle.short_premises.specs.Premises.{pairs_with, premises_below, premises, OneOrTwo}
 
 -- computed: of three attributes, {2}, {1}, {1, 2}, {0}, {0, 2}, {0, 1}
 cases : (premises 0 ≡ []) × (premises 1 ≡ 1 ∷ []) × (premises 3 ≡ 4 ∷ 2 ∷ 6 ∷ 1 ∷ 5 ∷ 3 ∷ [])
-unfolding pairsWith premisesBelow
+unfolding pairs_with premises_below
 cases = (refl, refl, refl)
 
 -- ---- attribute by attribute
 
 -- the highest attribute comes first
-pub pairs-step : (i j : ℕ) → i < j → pairsWith i (suc j) ≡ (2 ^ i + 2 ^ j) ∷ pairsWith i j
-unfolding pairsWith
-pairs-step i j h = rw (pairsWith, lt-ltb i j h)
+pub pairs-step : (i j : ℕ) → i < j → pairs_with i (suc j) ≡ (2 ^ i + 2 ^ j) ∷ pairs_with i j
+unfolding pairs_with
+pairs-step i j h = rw (pairs_with, lt-ltb i j h)
 
 -- none is above i
-pub pairs_end : (i j : ℕ) → j ≤ suc i → pairsWith i j ≡ []
-unfolding pairsWith
+pub pairs_end : (i j : ℕ) → j ≤ suc i → pairs_with i j ≡ []
+unfolding pairs_with
 pairs_end i zero h = refl
-pairs_end i (suc j) h = rw (pairsWith, le-ltb i j (omega arith))
+pairs_end i (suc j) h = rw (pairs_with, le-ltb i j (omega arith))
 
-pub premises-step : (n i : ℕ) → premisesBelow n (suc i) ≡ 2 ^ i ∷ (pairsWith i n ++ premisesBelow n i)
-unfolding premisesBelow
+pub premises-step : (n i : ℕ) → premises_below n (suc i) ≡ 2 ^ i ∷ (pairs_with i n ++ premises_below n i)
+unfolding premises_below
 premises-step n i = refl
 
-pub premises-end : (n : ℕ) → premisesBelow n 0 ≡ []
-unfolding premisesBelow
+pub premises-end : (n : ℕ) → premises_below n 0 ≡ []
+unfolding premises_below
 premises-end n = refl
 
 -- by cases, which of two attributes is lower
@@ -76,12 +76,12 @@ pub data Led (n i s : ℕ) : Type 0 where
   alone : s ≡ 2 ^ i → Led n i s
   joined : (j : ℕ) → i < j → j < n → s ≡ 2 ^ i + 2 ^ j → Led n i s
 
-pairs-listed : (i k s : ℕ) → Memᴰ s (pairsWith i k) → (j : ℕ) × (i < j) × (j < k) × (s ≡ 2 ^ i + 2 ^ j)
+pairs-listed : (i k s : ℕ) → Memᴰ s (pairs_with i k) → (j : ℕ) × (i < j) × (j < k) × (s ≡ 2 ^ i + 2 ^ j)
 pairs-listed i zero s m = absurd (Memᴰ.not-nil (subst (Memᴰ s) (pairs_end i 0 (omega arith)) m))
 pairs-listed i (suc k) s m =
     ⊎_elim (λ l. ⊎_elim (λ e. (k, l, omega arith, e)) (λ t. lower (pairs-listed i k s t)) (some l)) (λ l. absurd (none l)) (lt-or-le i k)
   where
-    some : i < k → (s ≡ 2 ^ i + 2 ^ k) ⊎ Memᴰ s (pairsWith i k)
+    some : i < k → (s ≡ 2 ^ i + 2 ^ k) ⊎ Memᴰ s (pairs_with i k)
     some l = Memᴰ.cases_cons (subst (Memᴰ s) (pairs-step i k l) m)
 
     none : k ≤ i → ⊥
@@ -90,7 +90,7 @@ pairs-listed i (suc k) s m =
     lower : (j : ℕ) × (i < j) × (j < k) × (s ≡ 2 ^ i + 2 ^ j) → (j : ℕ) × (i < j) × (j < suc k) × (s ≡ 2 ^ i + 2 ^ j)
     lower r = (r.0, r.1, omega (arith, r.2), r.3)
 
-pairs-there : (i k j : ℕ) → i < j → j < k → Memᴰ (2 ^ i + 2 ^ j) (pairsWith i k)
+pairs-there : (i k j : ℕ) → i < j → j < k → Memᴰ (2 ^ i + 2 ^ j) (pairs_with i k)
 pairs-there i zero j h l = absurd (omega arith)
 pairs-there i (suc k) j h l = rw (pairs-step i k (omega arith)) (⊎_elim
     (λ u. Memᴰ.tail (pairs-there i k j h u))
@@ -98,38 +98,38 @@ pairs-there i (suc k) j h l = rw (pairs-step i k (omega arith)) (⊎_elim
     (lt-or-le j k))
 
 -- each member of the list of those below k is led by an attribute below k, and each set so led is a member
-pub listed : (n k s : ℕ) → Memᴰ s (premisesBelow n k) → (i : ℕ) × (i < k) × Led n i s
-unfolding premisesBelow
+pub listed : (n k s : ℕ) → Memᴰ s (premises_below n k) → (i : ℕ) × (i < k) × Led n i s
+unfolding premises_below
 listed n zero s m = absurd (Memᴰ.not-nil m)
 listed n (suc k) s m =
     ⊎_elim (λ e. (k, omega arith, alone e))
-    (λ t. ⊎_elim pair (λ u. lower (listed n k s u)) (Memᴰ.append_cases (pairsWith k n) t))
+    (λ t. ⊎_elim pair (λ u. lower (listed n k s u)) (Memᴰ.append_cases (pairs_with k n) t))
     (Memᴰ.cases_cons m)
   where
-    pair : Memᴰ s (pairsWith k n) → (i : ℕ) × (i < suc k) × Led n i s
+    pair : Memᴰ s (pairs_with k n) → (i : ℕ) × (i < suc k) × Led n i s
     pair t = let r = pairs-listed k n s t in (k, omega arith, joined r.0 r.1 r.2 r.3)
 
     lower : (i : ℕ) × (i < k) × Led n i s → (i : ℕ) × (i < suc k) × Led n i s
     lower r = (r.0, omega (arith, r.1), r.2)
 
-pub listed-there : (n k s i : ℕ) → i < k → Led n i s → Memᴰ s (premisesBelow n k)
-unfolding premisesBelow
+pub listed-there : (n k s i : ℕ) → i < k → Led n i s → Memᴰ s (premises_below n k)
+unfolding premises_below
 listed-there n zero s i h p = absurd (omega arith)
 listed-there n (suc k) s i h p =
-    ⊎_elim (λ l. Memᴰ.tail (Memᴰ.append_right (pairsWith k n) (listed-there n k s i l p))) (λ l. here (omega arith) p) (lt-or-le i k)
+    ⊎_elim (λ l. Memᴰ.tail (Memᴰ.append_right (pairs_with k n) (listed-there n k s i l p))) (λ l. here (omega arith) p) (lt-or-le i k)
   where
-    here : i ≡ k → Led n i s → Memᴰ s (2 ^ k ∷ (pairsWith k n ++ premisesBelow n k))
+    here : i ≡ k → Led n i s → Memᴰ s (2 ^ k ∷ (pairs_with k n ++ premises_below n k))
     here e (alone f) = Memᴰ.head (f ∙ ap (λ (w : ℕ). 2 ^ w) e)
-    here e (joined j u l f) = Memᴰ.tail (Memᴰ.append_left (premisesBelow n k)
+    here e (joined j u l f) = Memᴰ.tail (Memᴰ.append_left (premises_below n k)
         (Memᴰ.cast (f ∙ ap (λ (w : ℕ). 2 ^ w + 2 ^ j) e) (pairs-there k n j (omega arith) l)))
 
 -- ---- they are the sets of M with one or two attributes
 
 pub led-short : {n i s : ℕ} → Led n i s → OneOrTwo s
 led-short {i = i} (alone e) =
-    rw e (record { one = i; another = i; has_one = single-at i; has-another = single-at i; no_third = λ k m. inl (single-only i k m) })
+    rw e (record { one = i; another = i; has_one = single-at i; has_another = single-at i; no_third = λ k m. inl (single-only i k m) })
 led-short {i = i} (joined j h l e) =
-    rw e (record { one = i; another = j; has_one = both_one i j h; has-another = both-other i j h; no_third = both-only i j h })
+    rw e (record { one = i; another = j; has_one = both_one i j h; has_another = both-other i j h; no_third = both-only i j h })
 
 pub led-within : {n i s : ℕ} → i < n → Led n i s → Sub s (full n)
 led-within {n} {i} h (alone e) = rw e (record { at = λ k m. member-full n k (omega (arith, single-only i k m)) })
@@ -153,15 +153,15 @@ both-same s i j h p q r = sub-antisym
 
 pub short-led : (n s : ℕ) → Sub s (full n) → OneOrTwo s → (i : ℕ) × (i < n) × Led n i s
 short-led n s w o = by_order o.one o.another
-    (λ l. (o.one, one_in, joined o.another l another-in (both-same s o.one o.another l o.has_one o.has-another o.no_third)))
-    (λ l. (o.another, another-in, joined o.one l one_in (both-same s o.another o.one l o.has-another o.has_one swapped)))
+    (λ l. (o.one, one_in, joined o.another l another-in (both-same s o.one o.another l o.has_one o.has_another o.no_third)))
+    (λ l. (o.another, another-in, joined o.one l one_in (both-same s o.another o.one l o.has_another o.has_one swapped)))
     (λ e. (o.one, one_in, alone (one_same s o.one o.has_one (same e))))
   where
     one_in : o.one < n
     one_in = full-member n o.one (w.at o.one o.has_one)
 
     another-in : o.another < n
-    another-in = full-member n o.another (w.at o.another o.has-another)
+    another-in = full-member n o.another (w.at o.another o.has_another)
 
     swapped : (k : ℕ) → In k s → (k ≡ o.another) ⊎ (k ≡ o.one)
     swapped k m = ⊎_swap (o.no_third k m)
@@ -212,29 +212,29 @@ pairwise_append R [] t p q h = q
 pairwise_append R (x ∷ s) t p q h =
     (all_append s t p.0 (λ y m. h x y (Memᴰ.head refl) m), pairwise_append R s t p.1 q (λ a b ma mb. h a b (Memᴰ.tail ma) mb))
 
-pairs-sorted : (i k : ℕ) → Pairwise Before (pairsWith i k)
+pairs-sorted : (i k : ℕ) → Pairwise Before (pairs_with i k)
 pairs-sorted i zero = rw (pairs_end i 0 (omega arith)) tt
 pairs-sorted i (suc k) = ⊎_elim (λ l. rw (pairs-step i k l) (first, pairs-sorted i k)) (λ l. rw (pairs_end i (suc k) (omega arith)) tt) (lt-or-le i k)
   where
-    first : (s : ℕ) → Memᴰ s (pairsWith i k) → Before (2 ^ i + 2 ^ k) s
+    first : (s : ℕ) → Memᴰ s (pairs_with i k) → Before (2 ^ i + 2 ^ k) s
     first s m = let r = pairs-listed i k s m in rw r.3 (both-before i k r.0 r.1 r.2)
 
 -- each member is before all later ones
-pub sorted : (n k : ℕ) → Pairwise Before (premisesBelow n k)
-unfolding premisesBelow
+pub sorted : (n k : ℕ) → Pairwise Before (premises_below n k)
+unfolding premises_below
 sorted n zero = tt
 sorted n (suc k) = (
-  all_append (pairsWith k n) (premisesBelow n k) pairs (λ s m. later s m (one-starts k)),
-  pairwise_append Before (pairsWith k n) (premisesBelow n k) (pairs-sorted k n) (sorted n k) across,
+  all_append (pairs_with k n) (premises_below n k) pairs (λ s m. later s m (one-starts k)),
+  pairwise_append Before (pairs_with k n) (premises_below n k) (pairs-sorted k n) (sorted n k) across,
 )
   where
-    pairs : (s : ℕ) → Memᴰ s (pairsWith k n) → Before (2 ^ k) s
+    pairs : (s : ℕ) → Memᴰ s (pairs_with k n) → Before (2 ^ k) s
     pairs s m = let r = pairs-listed k n s m in rw r.3 (one-before k r.0 r.1)
 
-    later : {x : ℕ} (s : ℕ) → Memᴰ s (premisesBelow n k) → Starts k x → Before x s
+    later : {x : ℕ} (s : ℕ) → Memᴰ s (premises_below n k) → Starts k x → Before x s
     later s m p = let r = listed n k s m in starts-before p (led-starts r.2) r.1
 
-    across : (x s : ℕ) → Memᴰ x (pairsWith k n) → Memᴰ s (premisesBelow n k) → Before x s
+    across : (x s : ℕ) → Memᴰ x (pairs_with k n) → Memᴰ s (premises_below n k) → Before x s
     across x s mx m = let r = pairs-listed k n x mx in later s m (rw r.3 (both-starts k r.0 r.1))
 
 -- ---- lists in order
@@ -270,12 +270,12 @@ places-once l p i j hi hj e = by_order i j (λ u. absurd (apart i j u hj e)) (λ
     apart a b h k f = before-irreflexive (get_or l b 0) (subst (λ (x : ℕ). Before x (get_or l b 0)) f (places-ordered l p a b h k))
 
 -- two lists in order with the same members are the same
-pub same-list : (k l : List ℕ) → Pairwise Before k → Pairwise Before l → ((s : ℕ) → Memᴰ s k → Memᴰ s l)
+pub same_list : (k l : List ℕ) → Pairwise Before k → Pairwise Before l → ((s : ℕ) → Memᴰ s k → Memᴰ s l)
     → ((s : ℕ) → Memᴰ s l → Memᴰ s k) → k ≡ l
-same-list [] [] p q f g = refl
-same-list [] (y ∷ l) p q f g = absurd (Memᴰ.not-nil (g y (Memᴰ.head refl)))
-same-list (x ∷ k) [] p q f g = absurd (Memᴰ.not-nil (f x (Memᴰ.head refl)))
-same-list (x ∷ k) (y ∷ l) p q f g = ap₂ ◌∷◌ first (same-list k l p.1 q.1 there back)
+same_list [] [] p q f g = refl
+same_list [] (y ∷ l) p q f g = absurd (Memᴰ.not-nil (g y (Memᴰ.head refl)))
+same_list (x ∷ k) [] p q f g = absurd (Memᴰ.not-nil (f x (Memᴰ.head refl)))
+same_list (x ∷ k) (y ∷ l) p q f g = ap₂ ◌∷◌ first (same_list k l p.1 q.1 there back)
   where
     first : x ≡ y
     first = ⊎_elim (λ e. e) (λ m. ⊎_elim (λ e. sym e) (λ t. absurd (both m t)) (Memᴰ.cases_cons (g y (Memᴰ.head refl))))
@@ -294,7 +294,7 @@ same-list (x ∷ k) (y ∷ l) p q f g = ap₂ ◌∷◌ first (same-list k l p.1
 
 -- ---- how many they are
 
-pairs-length : (i k : ℕ) → length (pairsWith i k) ≡ k - suc i
+pairs-length : (i k : ℕ) → length (pairs_with i k) ≡ k - suc i
 pairs-length i zero = ap length (pairs_end i 0 (omega arith)) ∙ omega arith
 pairs-length i (suc k) = ⊎_elim
     (λ l. ap length (pairs-step i k l) ∙ omega (arith, pairs-length i k))
@@ -302,10 +302,10 @@ pairs-length i (suc k) = ⊎_elim
     (lt-or-le i k)
 
 -- for each attribute i below k there are n - i
-pub below_length : (n k : ℕ) → k ≤ n → length (premisesBelow n k) * 2 + k * k ≡ n * k * 2 + k
-unfolding premisesBelow
+pub below_length : (n k : ℕ) → k ≤ n → length (premises_below n k) * 2 + k * k ≡ n * k * 2 + k
+unfolding premises_below
 below_length n zero h = omega arith
 below_length n (suc k) h =
     let rest = below_length n k (omega arith) in
     let square : suc k * suc k ≡ k * k + k + suc k = mul-suc (suc k) k ∙ ap (λ (x : ℕ). x + suc k) (suc-mul k k) in
-    omega (arith, length-append (pairsWith k n) (premisesBelow n k), pairs-length k n, mul-suc n k)
+    omega (arith, length-append (pairs_with k n) (premises_below n k), pairs-length k n, mul-suc n k)

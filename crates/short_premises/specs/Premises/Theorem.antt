@@ -3,7 +3,7 @@
 use Rattle.std.specs.Prelude.{◌≡◌, List, ℕ, ◌+◌, ◌*◌, length}
 use Rattle.std.proofs.Common.{mul-add, arith}
 use Rattle.short_premises.specs.Premises.{premises, ListsShort}
-use Rattle.short_premises.specs.Premises.Laws.{listed, listed-there, led-short, led-within, short-led, sorted, places-ordered, ordered-places, places-once, same-list, below_length}
+use Rattle.short_premises.specs.Premises.Laws.{listed, listed-there, led-short, led-within, short-led, sorted, places-ordered, ordered-places, places-once, same_list, below_length}
 
 pub short-premises : (n : ℕ) → ListsShort n (premises n)
 short-premises n = record {
@@ -18,6 +18,6 @@ pub how-many : (n : ℕ) → length (premises n) * 2 ≡ n * (n + 1)
 how-many n = omega (arith, below_length n n (omega arith), mul-add n n 1)
 
 pub no_other : (n : ℕ) (l : List ℕ) → ListsShort n l → l ≡ premises n
-no_other n l h = same-list l (premises n) (ordered-places l h.in_order) (sorted n n)
+no_other n l h = same_list l (premises n) (ordered-places l h.in_order) (sorted n n)
     (λ s m. (short-premises n).all s (h.within s m) (h.short s m))
     (λ s m. h.all s ((short-premises n).within s m) ((short-premises n).short s m))

@@ -5,7 +5,7 @@ use Prim.Native.Nat.{ℕ, ◌*◌, ◌/◌, ◌%◌}
 use native.Mathlib.Omega.{arith}
 use lib.Dec.{ltb}
 use borrow.Author.Tests.{eq-eqb, ne_eqb, ltb-true, ltb-false, lt-ltb, le-ltb}
-use Rattle.session.specs.Limits.{badLength}
+use Rattle.session.specs.Limits.{bad_length}
 use Rattle.size_tests.proofs.bad_length.Statement.{statement}
 use Rattle.size_tests.proofs.bad_length.Tie as tie
 
@@ -17,11 +17,11 @@ places most words even = go (ltb (most * 2) words) refl
     go false e = le-ltb most (words / 2) (omega (arith, ltb-false (most * 2) words e))
 
 returns : tie.Need-returns
-unfolding badLength
+unfolding bad_length
 returns c = rw (ne_eqb (c.before.args.words % 2) 0 (λ e. omega arith))
 
 returns-2 : tie.Need-returns-2
-unfolding badLength
+unfolding bad_length
 returns-2 c =
     let a = c.before.args in
     let even : a.words % 2 ≡ 0 = omega arith in

@@ -8,10 +8,10 @@ use borrow.Author.Rules.{rules}
 use Rattle.session.specs.declared.Refusal.{Refusal}
 use Rattle.attribute_set.specs.Sets.{full, without}
 use Rattle.reach.specs.Reach.{reach}
-use Rattle.machine.specs.Checks.{State, firstFailing, sessionChecks, reachOf, force}
+use Rattle.machine.specs.Checks.{State, first_failing, session_checks, reach_of, force}
 use Rattle.machine.specs.Checks.Laws.{unasked, checked-small}
 use Rattle.machine.specs.Calls.{state_of}
-use Rattle.size_checks.specs.Verdicts.{verdictOf}
+use Rattle.size_checks.specs.Verdicts.{verdict_of}
 use Rattle.standing.specs.Standings.Laws.{found-refused, found-full, found-tight, found-open}
 use Rattle.standing.proofs.find_standing.Statement.{statement}
 use Rattle.standing.proofs.find_standing.Tie as tie
@@ -23,9 +23,9 @@ abbrev state : tie.After-check-session → State
 state c = let a = (start c).args in state_of a.session a.rows.now a.list.now a.background.now
 
 abbrev verdict : State → Option Refusal
-verdict s = firstFailing (sessionChecks s [])
+verdict s = first_failing (session_checks s [])
 
-decided : (c : tie.After-check-session) → verdictOf c.check-session.result ≡ verdict (state c)
+decided : (c : tie.After-check-session) → verdict_of c.check-session.result ≡ verdict (state c)
 decided c = c.check-session.ensures ∙ unasked (state c)
 
 -- checks 1 to 7 passed
@@ -33,7 +33,7 @@ abbrev checked : tie.After-enum-told → tie.After-check-session
 checked c = c.before.before
 
 clear : (c : tie.After-enum-told) → verdict (state (checked c)) ≡ none
-clear c = sym (decided (checked c)) ∙ ap verdictOf c.enum_told.given.1
+clear c = sym (decided (checked c)) ∙ ap verdict_of c.enum_told.given.1
 
 small : (c : tie.After-enum-told) → (state (checked c)).n ≤ 64
 small c = (checked-small (state (checked c)) [] (clear c)).0
@@ -50,7 +50,7 @@ below c e = c.if1.false (e ∙ sym (whole c.before))
 abbrev passed : tie.After-reach-of → tie.After-enum-told
 passed c = c.before.before.before
 
-reached : (c : tie.After-reach-of) → c.reach_of.result ≡ reachOf (state (checked (passed c)))
+reached : (c : tie.After-reach-of) → c.reach_of.result ≡ reach_of (state (checked (passed c)))
 reached c =
     let s = state (checked (passed c)) in
     let e : c.reach_of.result ≡ reach (force s) (min s.n 64) s.rows s.current = c.reach_of.ensures in
@@ -59,7 +59,7 @@ reached c =
 returns : tie.Need-returns
 returns c =
     let d = c.before.before.before in
-    found-refused (state d) _ (sym (decided d) ∙ ap verdictOf c.before.verdict.given.1)
+    found-refused (state d) _ (sym (decided d) ∙ ap verdict_of c.before.verdict.given.1)
 
 returns-2 : tie.Need-returns-2
 returns-2 c =

@@ -6,9 +6,9 @@ use Prim.Native.Nat.{ℕ, ◌≤◌, ◌<◌, ◌+◌, ◌-◌, ◌^◌}
 use native.Mathlib.Omega.{arith}
 use borrow.Author.Rules.{rules}
 use lib.ListN.{length, get_or, drop}
-use Rattle.table_bytes.specs.Bytes.{isDigit}
+use Rattle.table_bytes.specs.Bytes.{is_digit}
 use Rattle.line_bytes.specs.Everywhere.{everywhere}
-use Rattle.table_counts.specs.Counts.{decimalFrom}
+use Rattle.table_counts.specs.Counts.{decimal_from}
 use Rattle.line_bytes.specs.Everywhere.Laws.{everywhere-at}
 use Rattle.table_counts.specs.Counts.Laws.{decimal-at, decimal-end, digit-range, decimal-below, power_small}
 use Rattle.table_counts.proofs.decimal.Statement.{statement}
@@ -18,8 +18,8 @@ abbrev invariant-loop : tie.invariant-loop
 invariant-loop line n₀ i₀ n i =
     (i ≤ length line)
     × (n < 10 ^ i)
-    × (everywhere isDigit (drop i line) ≡ true)
-    × (decimalFrom n (drop i line) ≡ decimalFrom 0 line)
+    × (everywhere is_digit (drop i line) ≡ true)
+    × (decimal_from n (drop i line) ≡ decimal_from 0 line)
 
 abbrev decreases-loop : tie.decreases-loop
 decreases-loop line n₀ i₀ n i = length line - i
@@ -31,10 +31,10 @@ line c = c.before.before.args.line.now
 digits : (c : tie.In-loop invariant-loop decreases-loop)
     → let i = c.before.loop.i in
     let b = get_or (line c) i 0 in
-    (48 ≤ b) × (b ≤ 57) × (everywhere isDigit (drop (i + 1) (line c)) ≡ true)
+    (48 ≤ b) × (b ≤ 57) × (everywhere is_digit (drop (i + 1) (line c)) ≡ true)
 digits c =
     let l = c.before.loop in
-    let t = (and-eq-true_iff _ _).0 (sym (everywhere-at (line c) l.i c.loop-test.true isDigit) ∙ l.invariant.2) in
+    let t = (and-eq-true_iff _ _).0 (sym (everywhere-at (line c) l.i c.loop-test.true is_digit) ∙ l.invariant.2) in
     let r = digit-range _ t.0 in
     (r.0, r.1, t.1)
 

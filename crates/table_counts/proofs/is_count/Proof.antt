@@ -5,23 +5,23 @@ use native.Mathlib.Omega.{arith}
 use lib.ListN.{length}
 use borrow.Author.Rules.{rules}
 use borrow.Author.Tests.{lt-ltb, le-leb, lt-leb}
-use Rattle.table_counts.specs.Counts.{isCount}
+use Rattle.table_counts.specs.Counts.{is_count}
 use Rattle.table_counts.proofs.is_count.Statement.{statement}
 use Rattle.table_counts.proofs.is_count.Tie as tie
 
 returns : tie.Need-returns
-unfolding isCount
+unfolding is_count
 returns c = rw c.if1.true
 
 returns-2 : tie.Need-returns-2
-unfolding isCount
+unfolding is_count
 returns-2 c =
     let line = c.before.before.before.args.line.now in
     let h : 4 < length line = omega arith in
     rw (lt-leb _ _ h, and-false)
 
 returns-3 : tie.Need-returns-3
-unfolding isCount
+unfolding is_count
 returns-3 c =
     let line = c.before.before.before.before.args.line.now in
     let h : 0 < length line = omega arith in

@@ -7,7 +7,7 @@ use borrow.Author.Rules.{rules}
 use Rattle.table_lines.specs.declared.Line.{Line}
 use Rattle.table_lines.specs.Lines.{line_of}
 use Rattle.table_lines.specs.Lines.Laws.{bytes_inside}
-use Rattle.table_counts.specs.Counts.{countOf}
+use Rattle.table_counts.specs.Counts.{count_of}
 use Rattle.table_header.proofs.count_at.Statement.{statement}
 use Rattle.table_header.proofs.count_at.Tie as tie
 
@@ -34,7 +34,7 @@ returns c =
     let a = d.before.before.args in
     let s = d.line_at.result.size in
     let e : a.at + s - a.at ≡ (line_of (drop a.at a.file.now)).size = omega (arith, size d) in
-    c.count_of.ensures ∙ ap (λ k. countOf (take k (drop a.at a.file.now))) e
+    c.count_of.ensures ∙ ap (λ k. count_of (take k (drop a.at a.file.now))) e
 
 pub count-at-spec : {M : Type 1} → statement M
 count-at-spec =

@@ -2,9 +2,9 @@
 use mathlib.Core.Path.{◌≡◌, sym, ap, ◌∙◌}
 use mathlib.Core.List.{[]}
 use lib.ListN.{length}
-use Rattle.context.specs.Objects.{objectsOf}
+use Rattle.context.specs.Objects.{objects_of}
 use Rattle.machine.specs.Machine.{Opening, opening}
-use Rattle.session_opening.specs.Opening.{openingOf}
+use Rattle.session_opening.specs.Opening.{opening_of}
 use Rattle.session_opening.specs.declared.Opened.{Opened}
 use Rattle.text.specs.Page.{Page, page, text}
 use Rattle.transcript.specs.Output.{interviewed}
@@ -37,25 +37,25 @@ here c = let a = c.args in opening a.n (lent_of (length a.rows.now) (length a.li
 
 -- what is found, as the machine says it
 found : (c : tie.After-open) (x : Opened) → c.«open».result ≡ x
-    → openingOf x (start c).args.rows.now (start c).args.list.now [] ≡ here (start c)
+    → opening_of x (start c).args.rows.now (start c).args.list.now [] ≡ here (start c)
 found c x e =
     let a = (start c).args in
     opening-found a.n a.rows.now a.list.now c.«open».result x c.«open».ensures e
 
 -- where that is written, the interview of the opening is
 told : (c : tie.After-open) (x : Opened) → c.«open».result ≡ x → (q : Page) → let a = (start c).args in
-    q ≡ text (page a.out.now 0) (interviewed (objectsOf a.objects a.table.now) (openingOf x a.rows.now a.list.now []))
-    → q ≡ text (page a.out.now 0) (interviewed (objectsOf a.objects a.table.now) (here (start c)))
+    q ≡ text (page a.out.now 0) (interviewed (objects_of a.objects a.table.now) (opening_of x a.rows.now a.list.now []))
+    → q ≡ text (page a.out.now 0) (interviewed (objects_of a.objects a.table.now) (here (start c)))
 told c x e q t =
     let a = (start c).args in
-    t ∙ ap (λ o. text (page a.out.now 0) (interviewed (objectsOf a.objects a.table.now) o)) (found c x e)
+    t ∙ ap (λ o. text (page a.out.now 0) (interviewed (objects_of a.objects a.table.now) o)) (found c x e)
 
 run-beats-requires : tie.Need-run-beats-requires
 run-beats-requires c κs =
     let d = accepted c in
     let s = start d.before.before in
     let a = s.args in (
-      opened-along (objectsOf a.objects a.table.now) a.n (lent_of (length a.rows.now) (length a.list.now)) _ s.pre.complete
+      opened-along (objects_of a.objects a.table.now) a.n (lent_of (length a.rows.now) (length a.list.now)) _ s.pre.complete
           (sym (found d.before.before _ d.opened2.given.1)),
       s.pre.in_table,
     )

@@ -4,10 +4,10 @@ use mathlib.Core.List.{List}
 use Prim.Native.Nat.{ℕ, ◌+◌, ◌≤◌}
 use native.Mathlib.Omega.{arith}
 use lib.ListN.{length}
-use Rattle.context.specs.Objects.{Object, objectsOf}
+use Rattle.context.specs.Objects.{Object, objects_of}
 use Rattle.transcript.specs.Output.Ends.{measure}
 use Rattle.interview_replies.specs.Holding.{holding}
-use Rattle.handed_output.specs.Handing.{mostCounted, Hands}
+use Rattle.handed_output.specs.Handing.{most_counted, Hands}
 use Rattle.handed_output.specs.Handing.Laws.{hands_none, hands_on}
 use Rattle.interview_beat.specs.Running.{remaining, Running, Turned, along-fits, running-start, turned}
 use borrow.Author.Rules.{rules}
@@ -16,10 +16,10 @@ use Rattle.table_interview.proofs.run_beats.Tie as tie
 
 abbrev invariant-loop : tie.invariant-loop
 invariant-loop table objects rows₀ list₀ out₀ fd interview₀ at₀ handed₀ rows list out interview at handed =
-    let os = objectsOf objects table in
+    let os = objects_of objects table in
     Running os (remaining os (holding interview₀ rows₀ list₀) interview₀.changes) out₀ interview rows list out at
     × (length rows ≡ length rows₀) × (length list ≡ length list₀) × (length out ≡ length out₀)
-    × (handed₀.bytes + length out₀ ≤ mostCounted → Hands handed₀ at handed)
+    × (handed₀.bytes + length out₀ ≤ most_counted → Hands handed₀ at handed)
 
 abbrev decreases-loop : tie.decreases-loop
 decreases-loop table objects rows₀ list₀ out₀ fd interview₀ at₀ handed₀ rows list out interview at handed = measure (holding interview rows list)
@@ -31,11 +31,11 @@ start c = let known = c.before.before in known.before.before.before
 abbrev turn : tie.After-advance invariant-loop decreases-loop → tie.At-loop invariant-loop decreases-loop
 turn c = c.before.before.before.before
 
-abbrev out-left : tie.After-hand-over-arg invariant-loop decreases-loop → tie.After-out invariant-loop decreases-loop
-out-left c = c.before.before
+abbrev out_left : tie.After-hand-over-arg invariant-loop decreases-loop → tie.After-out invariant-loop decreases-loop
+out_left c = c.before.before
 
 abbrev list_left : tie.After-hand-over-arg invariant-loop decreases-loop → tie.After-list invariant-loop decreases-loop
-list_left c = (out-left c).before.before
+list_left c = (out_left c).before.before
 
 abbrev rows_left : tie.After-hand-over-arg invariant-loop decreases-loop → tie.After-rows invariant-loop decreases-loop
 rows_left c = (list_left c).before.before
@@ -45,7 +45,7 @@ beaten c = (rows_left c).before
 
 -- the rows of the table, and all that is to be written
 abbrev os : tie.Start invariant-loop decreases-loop → List Object
-os c = objectsOf c.args.objects c.args.table.now
+os c = objects_of c.args.objects c.args.table.now
 
 abbrev whole : tie.Start invariant-loop decreases-loop → List ℕ
 whole c = let a = c.args in remaining (os c) (holding a.start a.rows.now a.list.now) a.start.changes
@@ -75,13 +75,13 @@ loop-holds c =
 hands : (c : tie.After-hand-over invariant-loop decreases-loop)
     → let b = beaten c.before in
     let a = (start (turn b)).args in
-    a.before.bytes + length a.out.now ≤ mostCounted → Hands a.before b.advance.result.at c.hand-over.result
+    a.before.bytes + length a.out.now ≤ most_counted → Hands a.before b.advance.result.at c.hand-over.result
 hands c fits =
     let b = beaten c.before in
     let l = (turn b).loop in
     let w = (comes b).within in
     hands_on (start (turn b)).args.before l.handed c.hand-over.result l.at b.advance.result.at _ w.0 w.1
-    (omega (arith, (out-left c.before).out.given, l.inv.3, fits)) (l.inv.4 fits) c.hand-over.ensures
+    (omega (arith, (out_left c.before).out.given, l.inv.3, fits)) (l.inv.4 fits) c.hand-over.ensures
 
 returns : tie.Need-returns invariant-loop decreases-loop
 returns c = ((comes (beaten c.before.before)).all c.if1.true, hands c.before)
@@ -94,7 +94,7 @@ loop-again c =
     let e = c.before in
     let d = e.before.before in
     let inv = (turn (beaten d)).loop.inv in
-    ((comes (beaten d)).on e.if1.false, (rows_left d).rows.given ∙ inv.1, (list_left d).list.given ∙ inv.2, (out-left d).out.given ∙ inv.3, hands e.before)
+    ((comes (beaten d)).on e.if1.false, (rows_left d).rows.given ∙ inv.1, (list_left d).list.given ∙ inv.2, (out_left d).out.given ∙ inv.3, hands e.before)
 
 pub run-beats-spec : {M : Type 1} → statement M
 run-beats-spec =

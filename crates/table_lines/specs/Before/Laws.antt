@@ -5,15 +5,15 @@ use Rattle.std.proofs.Common.{sym, ap, ◌∙◌, arith, length-drop, get_or-dro
 use Rattle.std.proofs.lemmas.Bool.{eqb-false}
 use Rattle.table_lines.specs.Lines.{feeds, line, longer, line_of}
 use Rattle.table_lines.specs.Lines.Laws.{returned-fed, end-feed, end-return, end_none, line-none, line-end, line_on}
-use Rattle.table_lines.specs.Before.{lineBefore, ReturnsFed}
+use Rattle.table_lines.specs.Before.{line_before, ReturnsFed}
 
 -- computed: where a carriage return stands alone, the old rule had one line
-cases : (lineBefore (88 ∷ 13 ∷ 10 ∷ 46 ∷ []) ≡ line 1 3) × (lineBefore (88 ∷ 13 ∷ 46 ∷ 10 ∷ []) ≡ line 3 4) × (lineBefore (88 ∷ 13 ∷ []) ≡ line 2 2)
-unfolding lineBefore
+cases : (line_before (88 ∷ 13 ∷ 10 ∷ 46 ∷ []) ≡ line 1 3) × (line_before (88 ∷ 13 ∷ 46 ∷ 10 ∷ []) ≡ line 3 4) × (line_before (88 ∷ 13 ∷ []) ≡ line 2 2)
+unfolding line_before
 cases = (refl, refl, refl)
 
-first-before : (bs : List ℕ) → ReturnsFed bs → line_of bs ≡ lineBefore bs
-unfolding lineBefore
+first-before : (bs : List ℕ) → ReturnsFed bs → line_of bs ≡ line_before bs
+unfolding line_before
 first-before [] h = line-none
 first-before (b ∷ bs) h = go (eqb b 10) (eqb b 13) refl refl (first-before bs λ i l. h (suc i) (omega arith))
   where
@@ -21,8 +21,8 @@ first-before (b ∷ bs) h = go (eqb b 10) (eqb b 13) refl refl (first-before bs 
     fed [] e = absurd (omega arith)
     fed (c ∷ cs) e = eq-eqb c 10 e
 
-    go : (t u : Bool) → eqb b 10 ≡ t → eqb b 13 ≡ u → line_of bs ≡ lineBefore bs
-        → line_of (b ∷ bs) ≡ elim t [ true ↦ line 0 1 | false ↦ elim (u && feeds bs) [ true ↦ line 0 2 | false ↦ longer (lineBefore bs) ] ]
+    go : (t u : Bool) → eqb b 10 ≡ t → eqb b 13 ≡ u → line_of bs ≡ line_before bs
+        → line_of (b ∷ bs) ≡ elim t [ true ↦ line 0 1 | false ↦ elim (u && feeds bs) [ true ↦ line 0 2 | false ↦ longer (line_before bs) ] ]
     go true u e f on =
         let s = end-feed b bs (eqb-true _ _ e) in
         line-end (b ∷ bs) (λ z. absurd (omega arith)) ∙ ap (line 0) s
@@ -34,7 +34,7 @@ first-before (b ∷ bs) h = go (eqb b 10) (eqb b 13) refl refl (first-before bs 
     go false false e f on =
         line_on b bs (end_none b bs (eqb-false _ _ e, eqb-false _ _ f)) ∙ ap longer on
 
-pub as_before : (file : List ℕ) → ReturnsFed file → (at : ℕ) → line_of (drop at file) ≡ lineBefore (drop at file)
+pub as_before : (file : List ℕ) → ReturnsFed file → (at : ℕ) → line_of (drop at file) ≡ line_before (drop at file)
 as_before file h at =
     first-before (drop at file) λ i l e.
     let k : suc (at + i) ≡ at + suc i = omega arith in

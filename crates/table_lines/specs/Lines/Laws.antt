@@ -9,7 +9,7 @@ use borrow.Author.Tests.{eqb-true, eqb-false, eq-eqb, ne_eqb}
 use Rattle.theory.specs.Lists.{All}
 use Rattle.theory.specs.Lists.Laws.{all_nil, all_cons, all_drop}
 use Rattle.table_lines.specs.declared.Line.{Line}
-use Rattle.table_lines.specs.Lines.{lineFeed, carriageReturn, feeds, returned, end_of, IsEnd, NoEnd, line, longer, line_of, bytes_at, after, skipped}
+use Rattle.table_lines.specs.Lines.{line_feed, carriage_return, feeds, returned, end_of, IsEnd, NoEnd, line, longer, line_of, bytes_at, after, skipped}
 
 -- the line ends, computed: a line feed; a carriage return and a line feed; a carriage return alone, before a byte and before another
 -- carriage return; an empty line before a carriage return and a line feed, and before a line feed that a carriage return follows; a
@@ -52,9 +52,9 @@ module _ (b : ℕ) (bs : List ℕ) where
   -- what holds in each of the four cases holds of the end
   pub end-cases : (P : ℕ → Type 0) → (b ≡ 10 → P 1) → (b ≡ 13 → feeds bs ≡ true → P 2) → (b ≡ 13 → feeds bs ≡ false → P 1)
       → (NoEnd b → P 0) → P (end_of (b ∷ bs))
-  end-cases P f g h i = go (eqb b lineFeed) (eqb b carriageReturn) (feeds bs) refl refl refl
+  end-cases P f g h i = go (eqb b line_feed) (eqb b carriage_return) (feeds bs) refl refl refl
     where
-      go : (t u v : Bool) → eqb b lineFeed ≡ t → eqb b carriageReturn ≡ u → feeds bs ≡ v
+      go : (t u v : Bool) → eqb b line_feed ≡ t → eqb b carriage_return ≡ u → feeds bs ≡ v
           → P (elim t [ true ↦ 1 | false ↦ elim u [ true ↦ elim v [ true ↦ 2 | false ↦ 1 ] | false ↦ 0 ] ])
       go true u v e r w = f (eqb-true _ _ e)
       go false true true e r w = g (eqb-true _ _ r) w

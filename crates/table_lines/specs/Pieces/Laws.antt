@@ -19,19 +19,19 @@ use Rattle.theory.specs.Lists.Laws.{all_nil, all_cons}
 use Rattle.table_lines.specs.declared.Line.{Line}
 use Rattle.table_lines.specs.Lines.{feeds, IsEnd, NoEnd, longer, line_of, bytes_at, after, skipped}
 use Rattle.table_lines.specs.Lines.Laws.{end_is, end-some, end_none, line-none, line_on, line-cases, size-inside, step-moves, no-end-byte, line-ended, last_line, after-past, skipped-inside}
-use Rattle.table_lines.specs.Pieces.{Piece, joined, piece_of, piecesFrom, pieces, withoutEnds, lines_of, AreLines}
+use Rattle.table_lines.specs.Pieces.{Piece, joined, piece_of, pieces_from, pieces, without_ends, lines_of, AreLines}
 
 -- computed: the three ends, a carriage return before a carriage return and a line feed, and a last line without an end
 cases : lines_of (66 ∷ 13 ∷ 88 ∷ 10 ∷ 46 ∷ 13 ∷ 10 ∷ 63 ∷ 13 ∷ 13 ∷ 10 ∷ 120 ∷ [])
     ≡ (66 ∷ []) ∷ (88 ∷ []) ∷ (46 ∷ []) ∷ (63 ∷ []) ∷ [] ∷ (120 ∷ []) ∷ []
-unfolding piecesFrom line_of
+unfolding pieces_from line_of
 cases = refl
 
 -- ---- the first line and the others
 
 -- as many as the bytes are enough
-pieces-enough : (k n : ℕ) (bs : List ℕ) → length bs ≤ k → length bs ≤ n → piecesFrom k bs ≡ piecesFrom n bs
-unfolding piecesFrom
+pieces-enough : (k n : ℕ) (bs : List ℕ) → length bs ≤ k → length bs ≤ n → pieces_from k bs ≡ pieces_from n bs
+unfolding pieces_from
 pieces-enough zero zero bs h i = refl
 pieces-enough zero (suc n) [] h i = refl
 pieces-enough zero (suc n) (b ∷ bs) h i = absurd (omega arith)
@@ -44,11 +44,11 @@ pieces-enough (suc k) (suc n) (b ∷ bs) h i =
     ap (λ ps. piece_of (b ∷ bs) ∷ ps) (pieces-enough k n (drop s (b ∷ bs)) (omega arith) (omega arith))
 
 pieces_none : pieces [] ≡ []
-unfolding piecesFrom
+unfolding pieces_from
 pieces_none = refl
 
 pub pieces-some : (bs : List ℕ) → 0 < length bs → pieces bs ≡ piece_of bs ∷ pieces (drop (line_of bs).step bs)
-unfolding piecesFrom
+unfolding pieces_from
 pieces-some [] h = absurd (omega arith)
 pieces-some (b ∷ bs) h =
     let s = (line_of (b ∷ bs)).step in
@@ -66,8 +66,8 @@ piece-whole bs =
     ∙ ap (λ t. t ++ drop l.step bs) (take-append-drop l.size part)
     ∙ take-append-drop l.step bs
 
-from-whole : (k : ℕ) (bs : List ℕ) → length bs ≤ k → joined (piecesFrom k bs) ≡ bs
-unfolding piecesFrom
+from-whole : (k : ℕ) (bs : List ℕ) → length bs ≤ k → joined (pieces_from k bs) ≡ bs
+unfolding pieces_from
 from-whole zero [] h = refl
 from-whole zero (b ∷ bs) h = absurd (omega arith)
 from-whole (suc k) [] h = refl
@@ -100,10 +100,10 @@ ended-first b (c ∷ cs) =
     (λ e. ended-on b (c ∷ cs) (line_of (c ∷ cs)) (ended-first c cs))
 
 pub pieces-lines : (file : List ℕ) → AreLines (pieces file)
-unfolding piecesFrom
+unfolding pieces_from
 pieces-lines file = go (length file) file (omega arith)
   where
-    go : (k : ℕ) (bs : List ℕ) → length bs ≤ k → AreLines (piecesFrom k bs)
+    go : (k : ℕ) (bs : List ℕ) → length bs ≤ k → AreLines (pieces_from k bs)
     go zero bs h = tt
     go (suc k) [] h = tt
     go (suc k) (b ∷ bs) h =
@@ -116,7 +116,7 @@ pieces-lines file = go (length file) file (omega arith)
 pub lines-no-end : (file : List ℕ) → All (All NoEnd) (lines_of file)
 lines-no-end file = go (pieces file) (pieces-lines file)
   where
-    go : (ps : List Piece) → AreLines ps → All (All NoEnd) (withoutEnds ps)
+    go : (ps : List Piece) → AreLines ps → All (All NoEnd) (without_ends ps)
     go [] a = all_nil _
     go (p ∷ ps) a = all_cons a.0 (go ps a.2)
 
@@ -171,13 +171,13 @@ lines-only (p ∷ ps) (h, inr (e, f, some), a) =
 -- ---- the lines of a file, one by one
 
 pub lines_none : lines_of [] ≡ []
-lines_none = ap withoutEnds pieces_none
+lines_none = ap without_ends pieces_none
 
 module _ (file : List ℕ) where
   -- the line at an offset, and those behind it
   pub lines_at : (at : ℕ) → at < length file → lines_of (drop at file) ≡ bytes_at file at ∷ lines_of (drop (after file at) file)
   lines_at at h =
-      ap withoutEnds (pieces-some (drop at file) (omega (arith, length-drop at file)))
+      ap without_ends (pieces-some (drop at file) (omega (arith, length-drop at file)))
       ∙ ap (λ t. bytes_at file at ∷ lines_of t) (drop-drop (line_of (drop at file)).step at file)
 
   pub lines_end : (at : ℕ) → length file ≤ at → lines_of (drop at file) ≡ []
@@ -228,10 +228,10 @@ module _ (file : List ℕ) where
 
 -- a line with its end, and the lines behind it
 pub lines-ended : (l e behind : List ℕ) → All NoEnd l → IsEnd e behind → lines_of (l ++ (e ++ behind)) ≡ l ∷ lines_of behind
-lines-ended l e behind h p = ap withoutEnds (pieces-ended l e behind h p)
+lines-ended l e behind h p = ap without_ends (pieces-ended l e behind h p)
 
 pub lines-unended : (l : List ℕ) → All NoEnd l → 0 < length l → lines_of l ≡ l ∷ []
-lines-unended l h some = ap withoutEnds (pieces-unended l h some)
+lines-unended l h some = ap without_ends (pieces-unended l h some)
 
 -- a byte more before the first line
 abbrev prefixed : ℕ → List (List ℕ) → List (List ℕ)
@@ -239,14 +239,14 @@ prefixed b [] = (b ∷ []) ∷ []
 prefixed b (l ∷ ls) = (b ∷ l) ∷ ls
 
 lines-byte : (b : ℕ) (bs : List ℕ) → NoEnd b → lines_of (b ∷ bs) ≡ prefixed b (lines_of bs)
-unfolding piecesFrom
+unfolding pieces_from
 lines-byte b [] n = lines-unended (b ∷ []) (all_cons n (all_nil _)) (omega arith)
 lines-byte b (c ∷ cs) n =
     let f = line_on b (c ∷ cs) (end_none b (c ∷ cs) n) in
     let first = pieces-some (b ∷ c ∷ cs) (omega arith) in
-    ap withoutEnds first
+    ap without_ends first
     ∙ ap (λ (l : Line). take l.size (b ∷ c ∷ cs) ∷ lines_of (drop l.step (b ∷ c ∷ cs))) f
-    ∙ sym (ap (λ ps. prefixed b (withoutEnds ps)) (pieces-some (c ∷ cs) (omega arith)))
+    ∙ sym (ap (λ ps. prefixed b (without_ends ps)) (pieces-some (c ∷ cs) (omega arith)))
 
 lines-both : (bs : List ℕ) → feeds bs ≡ true → lines_of (13 ∷ bs) ≡ [] ∷ lines_of (drop 1 bs)
 lines-both [] f = absurd (false≢true f)

@@ -9,7 +9,7 @@ use Rattle.std.proofs.Math.Seq.{take-nil}
 use Rattle.table_lines.specs.declared.Line.{Line}
 use Rattle.table_lines.specs.Lines.{feeds, end_of, line, longer, line_of, after, skipped}
 use Rattle.table_lines.specs.Lines.Laws.{returned-fed, returned-alone, end-feed, end-return, end_none, end-cases, line-end, line_on, line-cases, size-inside, step-moves}
-use Rattle.table_lines.specs.Pieces.{withoutEnds, lines_of}
+use Rattle.table_lines.specs.Pieces.{without_ends, lines_of}
 use Rattle.table_lines.specs.Pieces.Laws.{pieces-some}
 
 -- ---- the first line of a part
@@ -74,7 +74,7 @@ drop-part (suc s) (suc m) (b ∷ bs) =
     rw e (drop-part s m bs)
 
 lines-first : (bs : List ℕ) → 0 < length bs → lines_of bs ≡ take (line_of bs).size bs ∷ lines_of (drop (line_of bs).step bs)
-lines-first bs h = ap withoutEnds (pieces-some bs h)
+lines-first bs h = ap without_ends (pieces-some bs h)
 
 pub part-lines : (k m : ℕ) (bs : List ℕ) → skipped k bs 0 ≤ m → take k (lines_of (take m bs)) ≡ take k (lines_of bs)
 part-lines zero m bs h = refl

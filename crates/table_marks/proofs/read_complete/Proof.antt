@@ -5,9 +5,9 @@ use lib.ListN.{length}
 use Rattle.table_layout.specs.declared.Opened.{Opened}
 use Rattle.table_layout.specs.declared.Opened.TheVariants.{Refused}
 use Rattle.table_layout.specs.Layout.{opened_of}
-use Rattle.mark_reading.specs.Marks.{readingFrom, rowWords}
+use Rattle.mark_reading.specs.Marks.{reading_from, words_of_rows}
 use Rattle.mark_reading.specs.Marks.Laws.{reading-bad, reading-fine}
-use Rattle.complete_tables.specs.Complete.{completeOf}
+use Rattle.complete_tables.specs.Complete.{complete_of}
 use Rattle.complete_tables.specs.Complete.Laws.{complete-layout}
 use Rattle.table_marks.proofs.read_complete.Statement.{statement}
 use Rattle.table_marks.proofs.read_complete.Tie as tie
@@ -20,8 +20,8 @@ returns c =
     let b = c.before.before in
     let a = (start b).args in
     let e = ap Refused c.refuse.ensures
-    ∙ sym (reading-bad (length a.rows.now) (completeOf a.file.now (opened_of a.file.now)) (sym b.bad-length.ensures ∙ c.before.if1.true)) in
-    (e, ap (λ (o : Opened). rowWords o a.file.now a.rows.now) e)
+    ∙ sym (reading-bad (length a.rows.now) (complete_of a.file.now (opened_of a.file.now)) (sym b.bad-length.ensures ∙ c.before.if1.true)) in
+    (e, ap (λ (o : Opened). words_of_rows o a.file.now a.rows.now) e)
 
 read-opened-requires : tie.Need-read-opened-requires
 read-opened-requires c κs l e =
@@ -34,9 +34,9 @@ returns-2 c =
     let o = r.before.before in
     let b = o.before.before in
     let a = (start b).args in
-    let e = r.read_opened.ensures.0 ∙ ap (readingFrom (length a.rows.now)) o.open-complete.ensures
-    ∙ sym (reading-fine (length a.rows.now) (completeOf a.file.now (opened_of a.file.now)) (sym b.bad-length.ensures ∙ o.before.if1.false)) in
-    (e, r.read_opened.ensures.1 ∙ ap (λ (x : Opened). rowWords x a.file.now a.rows.now) e)
+    let e = r.read_opened.ensures.0 ∙ ap (reading_from (length a.rows.now)) o.open-complete.ensures
+    ∙ sym (reading-fine (length a.rows.now) (complete_of a.file.now (opened_of a.file.now)) (sym b.bad-length.ensures ∙ o.before.if1.false)) in
+    (e, r.read_opened.ensures.1 ∙ ap (λ (x : Opened). words_of_rows x a.file.now a.rows.now) e)
 
 pub read-complete-spec : {M : Type 1} → statement M
 read-complete-spec =

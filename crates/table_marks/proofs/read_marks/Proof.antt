@@ -5,7 +5,7 @@ use lib.ListN.{length}
 use Rattle.table_layout.specs.declared.Opened.{Opened}
 use Rattle.table_layout.specs.declared.Opened.TheVariants.{Refused}
 use Rattle.table_layout.specs.Layout.{opened_of}
-use Rattle.mark_reading.specs.Marks.{readingFrom, rowWords}
+use Rattle.mark_reading.specs.Marks.{reading_from, words_of_rows}
 use Rattle.mark_reading.specs.Marks.Laws.{reading-bad, reading-fine}
 use Rattle.table_marks.proofs.read_marks.Statement.{statement}
 use Rattle.table_marks.proofs.read_marks.Tie as tie
@@ -19,7 +19,7 @@ returns c =
     let a = (start b).args in
     let e = ap Refused c.refuse.ensures
     ∙ sym (reading-bad (length a.rows.now) (opened_of a.file.now) (sym b.bad-length.ensures ∙ c.before.if1.true)) in
-    (e, ap (λ (o : Opened). rowWords o a.file.now a.rows.now) e)
+    (e, ap (λ (o : Opened). words_of_rows o a.file.now a.rows.now) e)
 
 read-opened-requires : tie.Need-read-opened-requires
 read-opened-requires c κs l e =
@@ -32,9 +32,9 @@ returns-2 c =
     let o = r.before.before in
     let b = o.before.before in
     let a = (start b).args in
-    let e = r.read_opened.ensures.0 ∙ ap (readingFrom (length a.rows.now)) o.«open».ensures
+    let e = r.read_opened.ensures.0 ∙ ap (reading_from (length a.rows.now)) o.«open».ensures
     ∙ sym (reading-fine (length a.rows.now) (opened_of a.file.now) (sym b.bad-length.ensures ∙ o.before.if1.false)) in
-    (e, r.read_opened.ensures.1 ∙ ap (λ (x : Opened). rowWords x a.file.now a.rows.now) e)
+    (e, r.read_opened.ensures.1 ∙ ap (λ (x : Opened). words_of_rows x a.file.now a.rows.now) e)
 
 pub read-marks-spec : {M : Type 1} → statement M
 read-marks-spec =

@@ -6,8 +6,8 @@ use Rattle.table_layout.specs.declared.Opened.TheVariants.{Refused}
 use Rattle.table_layout.specs.Layout.{opened_of}
 use Rattle.mark_reading.specs.Marks.Laws.{reading-bad, reading-fine}
 use Rattle.found_layout.specs.Found.Laws.{as-layout}
-use Rattle.mark_reading.specs.Marks.{readingFrom}
-use Rattle.found_layout.specs.Found.{openedAs}
+use Rattle.mark_reading.specs.Marks.{reading_from}
+use Rattle.found_layout.specs.Found.{opened_as}
 use Rattle.table_marks.proofs.read_marks_of.Statement.{statement}
 use Rattle.table_marks.proofs.read_marks_of.Tie as tie
 
@@ -19,7 +19,7 @@ returns c =
     let b = c.before.before in
     let a = (start b).args in
     let e = ap Refused c.refuse.ensures
-    ∙ sym (reading-bad (length a.rows.now) (openedAs a.layout (opened_of a.file.now)) (sym b.bad-length.ensures ∙ c.before.if1.true)) in
+    ∙ sym (reading-bad (length a.rows.now) (opened_as a.layout (opened_of a.file.now)) (sym b.bad-length.ensures ∙ c.before.if1.true)) in
     (e, refl)
 
 read-opened-requires : tie.Need-read-opened-requires
@@ -33,8 +33,8 @@ returns-2 c =
     let o = r.before.before in
     let b = o.before.before in
     let a = (start b).args in
-    let e = r.read_opened.ensures.0 ∙ ap (readingFrom (length a.rows.now)) o.open-as.ensures
-    ∙ sym (reading-fine (length a.rows.now) (openedAs a.layout (opened_of a.file.now)) (sym b.bad-length.ensures ∙ o.before.if1.false)) in
+    let e = r.read_opened.ensures.0 ∙ ap (reading_from (length a.rows.now)) o.open-as.ensures
+    ∙ sym (reading-fine (length a.rows.now) (opened_as a.layout (opened_of a.file.now)) (sym b.bad-length.ensures ∙ o.before.if1.false)) in
     (e, r.read_opened.ensures.1)
 
 pub read-marks-of-spec : {M : Type 1} → statement M

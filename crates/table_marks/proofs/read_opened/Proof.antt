@@ -6,14 +6,14 @@ use borrow.Author.Rules.{rules}
 use mathlib.Core.List.{List, ◌++◌}
 use lib.ListN.{length, drop, replicate}
 use Rattle.context.specs.Objects.{Object}
-use Rattle.session.specs.Limits.{mostAttributes}
+use Rattle.session.specs.Limits.{most_attributes}
 use Rattle.table_kinds.specs.declared.Kind.TheVariants.{Marks}
 use Rattle.table_layout.specs.declared.Opened.TheVariants.{Refused}
 use Rattle.line_walk.specs.Walk.{walk}
 use Rattle.table_walk.specs.Walk.{Passes}
 use Rattle.table_walk.specs.Walk.Passed.{passes-from}
 use Rattle.table_layout.specs.Layout.Passed.{table-marks, starts-inside}
-use Rattle.mark_reading.specs.Marks.{flat, readingFrom}
+use Rattle.mark_reading.specs.Marks.{flat, reading_from}
 use Rattle.mark_reading.specs.Marks.Laws.{rows-from, reading-short, reading-whole}
 use Rattle.table_marks.proofs.read_opened.Statement.{statement}
 use Rattle.table_marks.proofs.read_opened.Tie as tie
@@ -31,7 +31,7 @@ start1 c = c.before.before.before
 marked : (c : tie.After-opened)
     → let l = c.opened.given.0.0 in
     let f = (start c).args.file.now in
-    (l.attributes ≤ mostAttributes) × (l.marks ≤ length f) × Passes (walk (replicate l.objects (Marks l.attributes)) f l.marks)
+    (l.attributes ≤ most_attributes) × (l.marks ≤ length f) × Passes (walk (replicate l.objects (Marks l.attributes)) f l.marks)
 marked c = table-marks _ _ ((start c).requires _ c.opened.given.1)
 
 -- and its parts begin inside the file
@@ -44,14 +44,14 @@ inside c = starts-inside _ _ ((start c).requires _ c.opened.given.1)
 returns : tie.Need-returns
 returns c =
     let a = (start1 c.before.before).args in
-    (sym (ap (readingFrom (length a.rows.now)) c.before.opened2.given.1), refl)
+    (sym (ap (reading_from (length a.rows.now)) c.before.opened2.given.1), refl)
 
 returns-2 : tie.Need-returns-2
 returns-2 c =
     let o = found c.before.before in
     let a = (start o).args in (
       ap Refused c.refuse.ensures
-          ∙ sym (ap (readingFrom (length a.rows.now)) o.opened.given.1 ∙ reading-short (length a.rows.now) _ (omega arith)),
+          ∙ sym (ap (reading_from (length a.rows.now)) o.opened.given.1 ∙ reading-short (length a.rows.now) _ (omega arith)),
       refl,
     )
 
@@ -73,7 +73,7 @@ returns-3 c =
     let o = found e.before in
     let a = (start o).args in
     let l = o.opened.given.0.0 in (
-      sym (ap (readingFrom (length a.rows.now)) o.opened.given.1 ∙ reading-whole (length a.rows.now) _ (omega arith)),
+      sym (ap (reading_from (length a.rows.now)) o.opened.given.1 ∙ reading-whole (length a.rows.now) _ (omega arith)),
       r.read-rows.ensures
           ∙ ap (λ (os : List Object). flat os ++ drop (l.objects * 2) a.rows.now) (rows-from a.file.now l.marks l.objects),
     )

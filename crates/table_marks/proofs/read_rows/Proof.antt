@@ -6,9 +6,9 @@ use borrow.Author.Rules.{rules}
 use lib.ListN.{length, take, drop, length-set, length-drop}
 use lib.Seq.{length-take-le, take_all}
 use Rattle.context.specs.Objects.{object}
-use Rattle.session.specs.Limits.{mostAttributes}
+use Rattle.session.specs.Limits.{most_attributes}
 use Rattle.table_lines.specs.Lines.{bytes_at}
-use Rattle.table_rows.specs.Rows.{rowOf}
+use Rattle.table_rows.specs.Rows.{row_of}
 use Rattle.table_walk.specs.Walk.Passed.{NextLine}
 use Rattle.mark_reading.specs.Marks.Loop.{Reads, reads-start, next, reads_on, reads_end}
 use Rattle.table_marks.proofs.read_rows.Statement.{statement}
@@ -42,7 +42,7 @@ ahead c = let l = c.before.loop in next _ _ _ _ l.rows l.at l.i l.invariant (ome
 short : (c : tie.In-loop invariant-loop decreases-loop)
     → let l = c.before.loop in
     let a = (start c).args in
-    length (take a.n (drop l.at a.part.now)) ≤ mostAttributes
+    length (take a.n (drop l.at a.part.now)) ≤ most_attributes
 short c =
     let l = c.before.loop in
     let a = (start c).args in
@@ -51,14 +51,14 @@ short c =
 
 -- the row read is the line's
 row : (c : tie.After-row-of invariant-loop decreases-loop)
-    → object c.row_of.result.yes c.row_of.result.no ≡ rowOf (bytes_at (start (turn c)).args.part.now (turn c).before.loop.at)
+    → object c.row_of.result.yes c.row_of.result.no ≡ row_of (bytes_at (start (turn c)).args.part.now (turn c).before.loop.at)
 row c =
     let t = turn c in
     let l = t.before.loop in
     let a = (start t).args in
     let e : l.at + a.n - l.at ≡ a.n = omega arith in
-    c.row_of.ensures ∙ ap (λ k. rowOf (take mostAttributes (take k (drop l.at a.part.now)))) e
-    ∙ ap rowOf (take_all mostAttributes (take a.n (drop l.at a.part.now)) (short t) ∙ (ahead t).bytes)
+    c.row_of.ensures ∙ ap (λ k. row_of (take most_attributes (take k (drop l.at a.part.now)))) e
+    ∙ ap row_of (take_all most_attributes (take a.n (drop l.at a.part.now)) (short t) ∙ (ahead t).bytes)
 
 loop-holds : tie.Need-loop-init invariant-loop decreases-loop
 loop-holds c =

@@ -1,7 +1,7 @@
 -- The name is the bytes of its part of the file, which lies inside; that part's size decides the refusal.
 use mathlib.Core.Path.{ap, ◌∙◌}
 use borrow.Author.Rules.{rules}
-use Rattle.table_names.specs.Names.{bytesOf, nameRefusal}
+use Rattle.table_names.specs.Names.{bytes_of, name_refusal}
 use Rattle.table_names.specs.Names.Laws.{object-span-inside}
 use Rattle.table_names.proofs.object_name.Statement.{statement}
 use Rattle.table_names.proofs.object_name.Tie as tie
@@ -19,8 +19,8 @@ returns : tie.Need-returns
 returns c =
     let r = c.before in
     let s = r.before in (
-      c.bytes_of.ensures ∙ ap (bytesOf (start s).args.file.now) s.object-span.ensures,
-      r.refusal-of.ensures ∙ ap nameRefusal s.object-span.ensures,
+      c.bytes_of.ensures ∙ ap (bytes_of (start s).args.file.now) s.object-span.ensures,
+      r.refusal-of.ensures ∙ ap name_refusal s.object-span.ensures,
     )
 
 pub object-name-spec : {M : Type 1} → statement M

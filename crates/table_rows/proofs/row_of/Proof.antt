@@ -3,8 +3,8 @@ use mathlib.Core.Path.{sym, ap, ◌∙◌}
 use native.Mathlib.Omega.{arith}
 use borrow.Author.Rules.{rules}
 use lib.Seq.{length-take-le, take_all}
-use Rattle.session.specs.Limits.{mostAttributes}
-use Rattle.table_rows.specs.Rows.{rowOf}
+use Rattle.session.specs.Limits.{most_attributes}
+use Rattle.table_rows.specs.Rows.{row_of}
 use Rattle.table_rows.proofs.row_of.Statement.{statement}
 use Rattle.table_rows.proofs.row_of.Tie as tie
 
@@ -12,7 +12,7 @@ part-row-of-marks-end : tie.Need-slice-bounds-row-of-marks-end
 part-row-of-marks-end c = omega arith
 
 row-of-marks-requires : tie.Need-row-of-marks-requires
-row-of-marks-requires c κs = omega (arith, length-take-le mostAttributes c.before.before.before.args.line.now (omega arith))
+row-of-marks-requires c κs = omega (arith, length-take-le most_attributes c.before.before.before.args.line.now (omega arith))
 
 returns : tie.Need-returns
 returns c = c.row-of-marks.ensures
@@ -21,7 +21,7 @@ returns-2 : tie.Need-returns-2
 returns-2 c =
     let e = c.before in
     let line = e.before.before.args.line.now in
-    c.row-of-marks2.ensures ∙ sym (ap rowOf (take_all mostAttributes line e.if1.false))
+    c.row-of-marks2.ensures ∙ sym (ap row_of (take_all most_attributes line e.if1.false))
 
 pub row-of-spec : {M : Type 1} → statement M
 row-of-spec =

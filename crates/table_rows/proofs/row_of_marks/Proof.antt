@@ -6,14 +6,14 @@ use native.Mathlib.Omega.{arith}
 use borrow.Author.Rules.{rules}
 use lib.ListN.{length, get_or, drop}
 use Rattle.context.specs.Objects.{object}
-use Rattle.table_bytes.specs.Bytes.{is_yes, isNo}
+use Rattle.table_bytes.specs.Bytes.{is_yes, is_no}
 use Rattle.table_rows.specs.Rows.{bit_of, word_of}
 use Rattle.table_rows.specs.Rows.Laws.{word_none, word_on, word_small}
 use Rattle.table_rows.proofs.row_of_marks.Statement.{statement}
 use Rattle.table_rows.proofs.row_of_marks.Tie as tie
 
 abbrev invariant-loop : tie.invariant-loop
-invariant-loop line yes₀ no₀ j₀ yes' no' j = (j ≤ length line) × (yes' ≡ word_of is_yes (drop j line)) × (no' ≡ word_of isNo (drop j line))
+invariant-loop line yes₀ no₀ j₀ yes' no' j = (j ≤ length line) × (yes' ≡ word_of is_yes (drop j line)) × (no' ≡ word_of is_no (drop j line))
 
 abbrev decreases-loop : tie.decreases-loop
 decreases-loop line yes₀ no₀ j₀ yes' no' j = j
@@ -46,7 +46,7 @@ loop-holds : tie.Need-loop-init invariant-loop decreases-loop
 loop-holds c =
     let line = c.before.args.line.now in
     let h : length line ≤ length line = omega arith in
-    (h, sym (word_none is_yes line (length line) h), sym (word_none isNo line (length line) h))
+    (h, sym (word_none is_yes line (length line) h), sym (word_none is_no line (length line) h))
 
 sub-j : tie.Need-overflow-sub-j invariant-loop decreases-loop
 sub-j c = omega arith
@@ -61,20 +61,20 @@ add-yes : tie.Need-overflow-add-yes invariant-loop decreases-loop
 add-yes c = omega (arith, c.yes-bit.ensures, small is_yes c.before.before)
 
 mul-no : tie.Need-overflow-mul-no invariant-loop decreases-loop
-mul-no c = omega (arith, small isNo c.before.before)
+mul-no c = omega (arith, small is_no c.before.before)
 
 shared-slice-read-no-bit : tie.Need-shared-slice-read-no-bit invariant-loop decreases-loop
 shared-slice-read-no-bit c = omega arith
 
 add-no : tie.Need-overflow-add-no invariant-loop decreases-loop
-add-no c = omega (arith, c.no-bit.ensures, small isNo (turn c))
+add-no c = omega (arith, c.no-bit.ensures, small is_no (turn c))
 
 loop-less : tie.Need-loop-smaller invariant-loop decreases-loop
 loop-less c = omega arith
 
 loop-again : tie.Need-loop-preserved invariant-loop decreases-loop
 loop-again c =
-    (omega arith, omega (arith, c.before.before.yes-bit.ensures, longer is_yes (turn c)), omega (arith, c.no-bit.ensures, longer isNo (turn c)))
+    (omega arith, omega (arith, c.before.before.yes-bit.ensures, longer is_yes (turn c)), omega (arith, c.no-bit.ensures, longer is_no (turn c)))
 
 returns : tie.Need-returns invariant-loop decreases-loop
 returns c =

@@ -9,15 +9,15 @@ use native.Mathlib.Omega.{arith}
 use Rattle.std.proofs.Math.ListN.{drop, get_or}
 use Rattle.table_lines.specs.Lines.{line_of, after}
 use Rattle.context.specs.Objects.{object}
-use Rattle.session.specs.Limits.{mostAttributes}
+use Rattle.session.specs.Limits.{most_attributes}
 use Rattle.std.proofs.Math.Nat.{pow-suc}
 use Rattle.attribute_set.specs.Sets.{digit}
 use Rattle.attribute_set.specs.Sets.Laws.{digit-half, digit-high}
 use Rattle.line_bytes.specs.Everywhere.Laws.{byte_at}
-use Rattle.table_rows.specs.Rows.{bit_of, word_of, rowOf, rows_from}
+use Rattle.table_rows.specs.Rows.{bit_of, word_of, row_of, rows_from}
 
 -- computed: the row of `X?.x`, byte 0 for attribute 0, what is unknown in neither word; and a last row without line feed
-cases : (rowOf (88 ∷ 63 ∷ 46 ∷ 120 ∷ []) ≡ object 9 4) × (rows_from 2 (88 ∷ 10 ∷ 46 ∷ []) 0 ≡ object 1 0 ∷ object 0 1 ∷ [])
+cases : (row_of (88 ∷ 63 ∷ 46 ∷ 120 ∷ []) ≡ object 9 4) × (rows_from 2 (88 ∷ 10 ∷ 46 ∷ []) 0 ≡ object 1 0 ∷ object 0 1 ∷ [])
 unfolding word_of rows_from line_of
 cases = (refl, refl)
 
@@ -59,7 +59,7 @@ module _ (f : ℕ → Bool) where
           ap (word_of f) (byte_at bs (j - 1) (omega arith) ∙ ap (λ (k : ℕ). get_or bs (j - 1) 0 ∷ drop k bs) e)
 
       -- fewer than 64 bytes are passed
-      pub word_small : length bs ≤ mostAttributes → word_of f (drop j bs) * 2 + bit_of (f (get_or bs (j - 1) 0)) < 2 ^ 64
+      pub word_small : length bs ≤ most_attributes → word_of f (drop j bs) * 2 + bit_of (f (get_or bs (j - 1) 0)) < 2 ^ 64
       word_small few =
           let l : length (drop j bs) ≤ 63 = rw length-drop (omega arith) in
           let t : word_of f (drop j bs) < 2 ^ 63 = lt_of_lt_of_le (word_lt _) (pow_mono l) in

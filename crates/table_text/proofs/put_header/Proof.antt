@@ -1,6 +1,6 @@
 -- `B` and the empty title, the two counts, then the empty line.
 use Rattle.text.specs.Page.Laws.{text-on, text-then}
-use Rattle.text.specs.Text.{numberText, newline}
+use Rattle.text.specs.Text.{number_text, newline}
 use borrow.Author.Rules.{rules}
 use Rattle.closed_lines.specs.Closed.{closed}
 use Rattle.table_text.proofs.put_header.Statement.{statement}
@@ -18,8 +18,8 @@ returns c =
     let first = second.before.before.before.before in
     let a = (start first).args in
     text-on _ _ _ first.put-bytes.ensures (
-    text-then _ (numberText a.objects) newline _ second.put-number-then.ensures (
-    text-then _ (numberText a.attributes) newline _ third.put-number-then2.ensures fourth.put_byte.ensures))
+    text-then _ (number_text a.objects) newline _ second.put-number-then.ensures (
+    text-then _ (number_text a.attributes) newline _ third.put-number-then2.ensures fourth.put_byte.ensures))
 
 pub put-header-spec : {M : Type 1} → statement M
 put-header-spec =

@@ -7,23 +7,23 @@ use native.Mathlib.Nat.{sub-zero}
 use lib.ListN.{drop, get_or}
 use borrow.Author.Rules.{rules}
 use Rattle.implication.specs.Pairs.Laws.{pairs-at, pairs_end}
-use Rattle.context.specs.Objects.{Object, object, objectsOf}
+use Rattle.context.specs.Objects.{Object, object, objects_of}
 use Rattle.text.specs.Page.{page, text}
 use Rattle.text.specs.Page.Laws.{text-on, text-end, same_size}
-use Rattle.marks_text.specs.Marks.{marksText}
+use Rattle.marks_text.specs.Marks.{marks_text}
 use Rattle.closed_lines.specs.Closed.{closed}
 use Rattle.closed_lines.specs.Closed.Laws.{closed_none, closed-cons}
-use Rattle.table_text.specs.Table.{markLines}
+use Rattle.table_text.specs.Table.{mark_lines}
 use Rattle.table_text.proofs.put_rows.Statement.{statement}
 use Rattle.table_text.proofs.put_rows.Tie as tie
 
 -- the lines of marks of count rows, of which i are passed
 abbrev lines_from : ℕ → ℕ → List ℕ → ℕ → List ℕ
-lines_from n count ws i = closed (markLines n (objectsOf (count - i) (drop (i * 2) ws)))
+lines_from n count ws i = closed (mark_lines n (objects_of (count - i) (drop (i * 2) ws)))
 
 abbrev invariant-loop : tie.invariant-loop
 invariant-loop out₀ at n rows used count to₀ i₀ out to i =
-    (i ≤ count) × (text (page out to) (lines_from n count rows i) ≡ text (page out₀ at) (closed (markLines n (objectsOf count rows))))
+    (i ≤ count) × (text (page out to) (lines_from n count rows i) ≡ text (page out₀ at) (closed (mark_lines n (objects_of count rows))))
 
 abbrev decreases-loop : tie.decreases-loop
 decreases-loop out₀ at n rows used count to₀ i₀ out to i = count - i
@@ -55,13 +55,13 @@ loop-again c =
     let a = (start (counted t)).args in
     let count = (counted t).smaller.result in
     let ws = a.rows.now in
-    let here = marksText a.n (get_or ws (l.i * 2) 0) (get_or ws (l.i * 2 + 1) 0) in
-    let rest = markLines a.n (objectsOf (count - (l.i + 1)) (drop ((l.i + 1) * 2) ws)) in
+    let here = marks_text a.n (get_or ws (l.i * 2) 0) (get_or ws (l.i * 2 + 1) 0) in
+    let rest = mark_lines a.n (objects_of (count - (l.i + 1)) (drop ((l.i + 1) * 2) ws)) in
     let q = page l.out l.to in (
       omega arith,
       text-on q (closed (here ∷ [])) (closed rest) p.put-row.ensures refl
           ∙ ap (text q) (sym (closed-cons here rest)
-          ∙ sym (ap (λ (os : List Object). closed (markLines a.n os)) (pairs-at object ws count l.i (omega arith))))
+          ∙ sym (ap (λ (os : List Object). closed (mark_lines a.n os)) (pairs-at object ws count l.i (omega arith))))
           ∙ l.inv.1,
     )
 
@@ -75,9 +75,9 @@ returns c =
     let a = (start (counted t)).args in
     let ws = a.rows.now in
     let count = (counted t).smaller.result in
-    let none = ap (λ (os : List Object). closed (markLines a.n os)) (pairs_end object (drop (l.i * 2) ws) count l.i c.loop-test.false) in
+    let none = ap (λ (os : List Object). closed (mark_lines a.n os)) (pairs_end object (drop (l.i * 2) ws) count l.i c.loop-test.false) in
     text-end (page l.out l.to) _ (none ∙ closed_none) ∙ l.invariant.1
-    ∙ ap (λ (k : ℕ). text (page a.out.now a.at) (closed (markLines a.n (objectsOf k ws)))) (counted t).smaller.ensures
+    ∙ ap (λ (k : ℕ). text (page a.out.now a.at) (closed (mark_lines a.n (objects_of k ws)))) (counted t).smaller.ensures
 
 pub put-rows-spec : {M : Type 1} → statement M
 put-rows-spec =

@@ -5,14 +5,14 @@ use native.Mathlib.Omega.{arith}
 use native.Mathlib.Nat.{sub-zero}
 use lib.ListN.{replicate}
 use borrow.Author.Rules.{rules}
-use Rattle.table_walk.specs.Walk.{walkOn}
+use Rattle.table_walk.specs.Walk.{walk_on}
 use Rattle.table_walk.specs.Walk.Laws.{walk-on-none, walk-replicate-suc}
 use Rattle.table_walk.proofs.walk_lines.Statement.{statement}
 use Rattle.table_walk.proofs.walk_lines.Tie as tie
 
 abbrev invariant-loop : tie.invariant-loop
 invariant-loop file kind count w₀ i₀ w i =
-    (i ≤ count) × (walkOn w (replicate (count - i) kind) file ≡ walkOn w₀ (replicate count kind) file)
+    (i ≤ count) × (walk_on w (replicate (count - i) kind) file ≡ walk_on w₀ (replicate count kind) file)
 
 abbrev decreases-loop : tie.decreases-loop
 decreases-loop file kind count w₀ i₀ w i = count - i
@@ -35,7 +35,7 @@ returns c =
     let t = turn1 c in
     let l = t.before.loop in
     let a = (start t).args in
-    sym (ap (λ w. walkOn w (replicate (a.count - l.i) a.kind) a.file.now) c.before.w.given.1) ∙ l.inv.1
+    sym (ap (λ w. walk_on w (replicate (a.count - l.i) a.kind) a.file.now) c.before.w.given.1) ∙ l.inv.1
 
 add-i : tie.Need-overflow-add-i invariant-loop decreases-loop
 add-i c = omega arith
@@ -51,10 +51,10 @@ loop-again c =
     let n = a.count - (l.i + 1) in
     let e : suc n ≡ a.count - l.i = omega arith in (
       omega arith,
-      ap (λ w. walkOn w (replicate n a.kind) a.file.now)
-          (c.walk-line.ensures ∙ sym (ap (λ w. walkOn w (replicate 1 a.kind) a.file.now) c.before.before.w2.given.1))
+      ap (λ w. walk_on w (replicate n a.kind) a.file.now)
+          (c.walk-line.ensures ∙ sym (ap (λ w. walk_on w (replicate 1 a.kind) a.file.now) c.before.before.w2.given.1))
           ∙ sym (walk-replicate-suc a.file.now l.w a.kind n)
-          ∙ ap (λ m. walkOn l.w (replicate m a.kind) a.file.now) e ∙ l.inv.1,
+          ∙ ap (λ m. walk_on l.w (replicate m a.kind) a.file.now) e ∙ l.inv.1,
     )
 
 returns-2 : tie.Need-returns-2 invariant-loop decreases-loop
@@ -62,7 +62,7 @@ returns-2 c =
     let l = c.before.loop in
     let a = c.before.before.before.args in
     let e : 0 ≡ a.count - l.i = omega arith in
-    sym (walk-on-none a.file.now l.w) ∙ ap (λ m. walkOn l.w (replicate m a.kind) a.file.now) e ∙ l.invariant.1
+    sym (walk-on-none a.file.now l.w) ∙ ap (λ m. walk_on l.w (replicate m a.kind) a.file.now) e ∙ l.invariant.1
 
 pub walk-lines-spec : {M : Type 1} → statement M
 walk-lines-spec =

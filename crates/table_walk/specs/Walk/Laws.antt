@@ -15,8 +15,8 @@ use Rattle.line_walk.specs.declared.Walk.TheVariants.{Failed, At}
 use Rattle.session.specs.Refusals.{refusal}
 use Rattle.table_lines.specs.Lines.{line_of, bytes_at, after}
 use Rattle.table_lines.specs.Lines.Laws.{bytes-length, after-inside, after-moves}
-use Rattle.line_walk.specs.Walk.{lineFault, walk}
-use Rattle.table_walk.specs.Walk.{walkOn, rest, placeOf}
+use Rattle.line_walk.specs.Walk.{line_fault, walk}
+use Rattle.table_walk.specs.Walk.{walk_on, rest, place_of}
 
 -- computed: behind the last line needed, the first line that is not empty
 cases : (rest 4 (13 ∷ 10 ∷ 10 ∷ []) 0 ≡ At 3) × (rest 4 (10 ∷ 10 ∷ 88 ∷ []) 0 ≡ Failed (refusal 28 2))
@@ -24,44 +24,44 @@ unfolding rest line_of
 cases = (refl, refl)
 
 module _ (file : List ℕ) where
-  pub walk-append : (ks ls : List Kind) (at : ℕ) → walk (ks ++ ls) file at ≡ walkOn (walk ks file at) ls file
+  pub walk-append : (ks ls : List Kind) (at : ℕ) → walk (ks ++ ls) file at ≡ walk_on (walk ks file at) ls file
   unfolding walk
   walk-append [] ls at = refl
-  walk-append (k ∷ ks) ls at = go (eqb (lineFault k file at) 0) (walk-append ks ls (after file at))
+  walk-append (k ∷ ks) ls at = go (eqb (line_fault k file at) 0) (walk-append ks ls (after file at))
     where
       step : Bool → List Kind → Walk
-      step b ns = elim b [ true ↦ walk ns file (after file at) | false ↦ Failed (refusal (lineFault k file at) at) ]
+      step b ns = elim b [ true ↦ walk ns file (after file at) | false ↦ Failed (refusal (line_fault k file at) at) ]
 
-      go : (b : Bool) → step true (ks ++ ls) ≡ walkOn (step true ks) ls file → step b (ks ++ ls) ≡ walkOn (step b ks) ls file
+      go : (b : Bool) → step true (ks ++ ls) ≡ walk_on (step true ks) ls file → step b (ks ++ ls) ≡ walk_on (step b ks) ls file
       go true e = e
       go false e = refl
 
-  pub walk-on-append : (w : Walk) (ks ls : List Kind) → walkOn w (ks ++ ls) file ≡ walkOn (walkOn w ks file) ls file
+  pub walk-on-append : (w : Walk) (ks ls : List Kind) → walk_on w (ks ++ ls) file ≡ walk_on (walk_on w ks file) ls file
   walk-on-append (At at) ks ls = walk-append ks ls at
   walk-on-append (Failed r) ks ls = refl
 
-  pub walk-on-none : (w : Walk) → walkOn w [] file ≡ w
+  pub walk-on-none : (w : Walk) → walk_on w [] file ≡ w
   unfolding walk
   walk-on-none (At at) = refl
   walk-on-none (Failed r) = refl
 
   -- one line of a kind, and then the others
   pub walk-replicate-suc : (w : Walk) (k : Kind) (n : ℕ)
-      → walkOn w (replicate (suc n) k) file ≡ walkOn (walkOn w (k ∷ []) file) (replicate n k) file
+      → walk_on w (replicate (suc n) k) file ≡ walk_on (walk_on w (k ∷ []) file) (replicate n k) file
   walk-replicate-suc w k n = walk-on-append w (k ∷ []) (replicate n k)
 
   -- lines walked, and then more of a kind, whose number and kind are said in another way
-  pub walk-then : (ks : List Kind) {v w : Walk} {k l : Kind} {m n : ℕ} → v ≡ walkOn w (replicate m k) file → w ≡ walk ks file 0
+  pub walk-then : (ks : List Kind) {v w : Walk} {k l : Kind} {m n : ℕ} → v ≡ walk_on w (replicate m k) file → w ≡ walk ks file 0
       → k ≡ l → m ≡ n → v ≡ walk (ks ++ replicate n l) file 0
   walk-then ks {v} {w} {k} {l} {m} {n} d e f g = d ∙ rw (e, f, g) (sym (walk-append ks (replicate n l) 0))
 
-  pub place_inside : (ks : List Kind) (at : ℕ) → at ≤ length file → placeOf (walk ks file at) ≤ length file
+  pub place_inside : (ks : List Kind) (at : ℕ) → at ≤ length file → place_of (walk ks file at) ≤ length file
   unfolding walk
   place_inside [] at h = h
-  place_inside (k ∷ ks) at h = go (eqb (lineFault k file at) 0) (place_inside ks (after file at) (after-inside file at h))
+  place_inside (k ∷ ks) at h = go (eqb (line_fault k file at) 0) (place_inside ks (after file at) (after-inside file at h))
     where
-      go : (b : Bool) → placeOf (walk ks file (after file at)) ≤ length file
-          → placeOf (elim b [ true ↦ walk ks file (after file at) | false ↦ Failed (refusal (lineFault k file at) at) ]) ≤ length file
+      go : (b : Bool) → place_of (walk ks file (after file at)) ≤ length file
+          → place_of (elim b [ true ↦ walk ks file (after file at) | false ↦ Failed (refusal (line_fault k file at) at) ]) ≤ length file
       go true e = e
       go false e = h
 

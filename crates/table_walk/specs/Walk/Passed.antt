@@ -14,8 +14,8 @@ use Rattle.line_walk.specs.declared.Walk.TheVariants.{Failed, At}
 use Rattle.table_lines.specs.Lines.{line_of, bytes_at, after}
 use Rattle.table_lines.specs.Lines.Laws.{bytes-length, bytes_inside, after-end}
 use Rattle.line_faults.specs.Faults.{fault}
-use Rattle.line_walk.specs.Walk.{lineFault, walk}
-use Rattle.table_walk.specs.Walk.{walkOn, placeOf, Passes}
+use Rattle.line_walk.specs.Walk.{line_fault, walk}
+use Rattle.table_walk.specs.Walk.{walk_on, place_of, Passes}
 use Rattle.line_tests.specs.Tests.Laws.{unless-fine}
 use Rattle.table_kinds.specs.Kinds.Laws.{absent-some}
 use Rattle.line_walk.specs.Walk.Laws.{fault-there, fault-missing, walk-passed, walk-failed}
@@ -23,7 +23,7 @@ use Rattle.table_walk.specs.Walk.Laws.{walk-append}
 
 module _ (file : List ℕ) where
   -- a line without a fault is there
-  pub line-there : (k : Kind) (at : ℕ) → lineFault k file at ≡ 0 → (at < length file) × (fault k (bytes_at file at) ≡ 0)
+  pub line-there : (k : Kind) (at : ℕ) → line_fault k file at ≡ 0 → (at < length file) × (fault k (bytes_at file at) ≡ 0)
   line-there k at e = go (ltb at (length file)) refl
     where
       go : (b : Bool) → ltb at (length file) ≡ b → (at < length file) × (fault k (bytes_at file at) ≡ 0)
@@ -32,19 +32,19 @@ module _ (file : List ℕ) where
 
   -- the first line and the others
   pub passes-cons : (k : Kind) (ks : List Kind) (at : ℕ) → Passes (walk (k ∷ ks) file at)
-      → (lineFault k file at ≡ 0) × Passes (walk ks file (after file at))
-  passes-cons k ks at p = go (eqb (lineFault k file at) 0) refl
+      → (line_fault k file at ≡ 0) × Passes (walk ks file (after file at))
+  passes-cons k ks at p = go (eqb (line_fault k file at) 0) refl
     where
-      go : (b : Bool) → eqb (lineFault k file at) 0 ≡ b → (lineFault k file at ≡ 0) × Passes (walk ks file (after file at))
+      go : (b : Bool) → eqb (line_fault k file at) 0 ≡ b → (line_fault k file at ≡ 0) × Passes (walk ks file (after file at))
       go true t = let e = eqb-true _ _ t in (e, subst Passes (walk-passed file k at ks e) p)
       go false t = absurd (subst Passes (walk-failed file k at ks (eqb-false _ _ t)) p)
 
   -- the lines behind others pass from where those end
   pub passes_append : (ks ls : List Kind) (at : ℕ) → Passes (walk (ks ++ ls) file at)
-      → Passes (walk ks file at) × Passes (walk ls file (placeOf (walk ks file at)))
+      → Passes (walk ks file at) × Passes (walk ls file (place_of (walk ks file at)))
   passes_append ks ls at p = go (walk ks file at) (subst Passes (walk-append file ks ls at) p)
     where
-      go : (w : Walk) → Passes (walkOn w ls file) → Passes w × Passes (walk ls file (placeOf w))
+      go : (w : Walk) → Passes (walk_on w ls file) → Passes w × Passes (walk ls file (place_of w))
       go (At m) q = (tt, q)
       go (Failed r) q = absurd q
 

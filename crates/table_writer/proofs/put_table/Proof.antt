@@ -4,12 +4,12 @@ use mathlib.Core.List.{◌++◌}
 use Prim.Native.Nat.{ℕ, ◌+◌}
 use native.Mathlib.Omega.{arith}
 use borrow.Author.Rules.{rules}
-use Rattle.context.specs.Objects.{objectsOf}
+use Rattle.context.specs.Objects.{objects_of}
 use Rattle.context.specs.Objects.Laws.{whole}
 use Rattle.text.specs.Page.{page, text}
 use Rattle.text.specs.Page.Laws.{text-on, text-then}
 use Rattle.closed_lines.specs.Closed.{closed, first_lines}
-use Rattle.table_text.specs.Table.{headerLines, markLines}
+use Rattle.table_text.specs.Table.{header_lines, mark_lines}
 use Rattle.table_text.specs.Table.Laws.{text-parts}
 use Rattle.row_checks.specs.Rows.Laws.{rows_fit}
 use Rattle.table_writer.proofs.put_table.Statement.{statement}
@@ -45,11 +45,11 @@ returns c =
     let p = page a.out.now 0 in
     let fits = rows_fit a.n a.used ws s.pre in
     let all : whole a.used ws ≡ a.used = omega (arith, fits) in
-    let header = closed (headerLines a.used a.n) in
+    let header = closed (header_lines a.used a.n) in
     let names = closed (first_lines (a.used + a.n) a.names.now) in
-    let marks = closed (markLines a.n (objectsOf (whole a.used ws) ws)) in
+    let marks = closed (mark_lines a.n (objects_of (whole a.used ws) ws)) in
     text-then p header names marks (text-on p header names headed.put-header.ensures named.put-lines.ensures) third.put-rows.ensures
-    ∙ ap (λ (k : ℕ). text p (header ++ (names ++ closed (markLines a.n (objectsOf k ws))))) all
+    ∙ ap (λ (k : ℕ). text p (header ++ (names ++ closed (mark_lines a.n (objects_of k ws))))) all
     ∙ ap (text p) (sym (text-parts a.n a.used ws a.names.now))
 
 pub put-table-spec : {M : Type 1} → statement M

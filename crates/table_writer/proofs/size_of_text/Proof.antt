@@ -3,9 +3,9 @@ use Prim.Native.Nat.{ℕ, ◌+◌, ◌*◌, ◌≤◌}
 use native.Mathlib.Omega.{arith}
 use native.Mathlib.Nat.{mul-le-mul}
 use borrow.Author.Rules.{rules}
-use Rattle.session.specs.Limits.{mostAttributes, mostObjects}
+use Rattle.session.specs.Limits.{most_attributes, most_objects}
 use Rattle.text.specs.Text.Digits.Laws.{number_short}
-use Rattle.line_tests.specs.Tests.{mostNameBytes}
+use Rattle.line_tests.specs.Tests.{most_name_bytes}
 use Rattle.table_text.specs.Table.Laws.{text-size}
 use Rattle.row_checks.specs.Rows.Laws.{Fits, rows_fit}
 use Rattle.table_writing.specs.Writing.Laws.{names-fit}
@@ -24,12 +24,12 @@ first c = c.before
 
 -- what is known of the numbers
 pub record Small (n used x y size : ℕ) : Type 0 where
-  pub attributes : n ≤ mostAttributes
-  pub objects : used ≤ mostObjects
-  pub cells : used * (n + 1) ≤ mostObjects * (mostAttributes + 1)
-  pub used-digits : x ≤ 20
-  pub n-digits : y ≤ 20
-  pub named : size ≤ mostNameBytes * (used + n)
+  pub attributes : n ≤ most_attributes
+  pub objects : used ≤ most_objects
+  pub cells : used * (n + 1) ≤ most_objects * (most_attributes + 1)
+  pub used_digits : x ≤ 20
+  pub n_digits : y ≤ 20
+  pub named : size ≤ most_name_bytes * (used + n)
 
 counted : (c : tie.After-size-of-number2)
     → let a = (start (first c)).args in
@@ -50,13 +50,13 @@ small c =
     let a = s.args in
     let t = counted (both c) in
     let f = t.0 in
-    let few : a.n + 1 ≤ mostAttributes + 1 = omega (arith, f) in
+    let few : a.n + 1 ≤ most_attributes + 1 = omega (arith, f) in
     record {
       attributes = f.attributes;
       objects = f.objects;
       cells = mul-le-mul f.objects few;
-      used-digits = t.1;
-      n-digits = t.2;
+      used_digits = t.1;
+      n_digits = t.2;
       named = omega (arith, c.size-of-lines.ensures, (names-fit a.n a.used a.names.now s.pre.1).1);
     }
 

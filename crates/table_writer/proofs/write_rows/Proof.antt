@@ -3,7 +3,7 @@ use mathlib.Core.Path.{refl, sym, ap, ◌∙◌}
 use native.Mathlib.Omega.{arith}
 use lib.ListN.{length}
 use borrow.Author.Rules.{rules}
-use Rattle.table_writing.specs.Writing.{isFailed}
+use Rattle.table_writing.specs.Writing.{is_failed}
 use Rattle.row_checks.specs.Rows.Laws.{rows_fit}
 use Rattle.table_writing.specs.Writing.Laws.{name-refused}
 use Rattle.table_writer.proofs.write_rows.Statement.{statement}
@@ -23,7 +23,7 @@ write-named-requires : tie.Need-write-named-requires
 write-named-requires c κs =
     let told = c.before in
     let walked = told.before.before in
-    ((start walked.before).requires, ap isFailed (sym walked.walk-lines.ensures ∙ told.enum_told.given.1))
+    ((start walked.before).requires, ap is_failed (sym walked.walk-lines.ensures ∙ told.enum_told.given.1))
 
 returns : tie.Need-returns
 returns c =

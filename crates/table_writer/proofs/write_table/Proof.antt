@@ -2,13 +2,13 @@
 use mathlib.Core.Path.{refl, sym, ap, ◌∙◌}
 use lib.ListN.{length}
 use borrow.Author.Rules.{rules}
-use Rattle.size_checks.specs.Verdicts.{verdictOf}
+use Rattle.size_checks.specs.Verdicts.{verdict_of}
 use Rattle.table_writing.specs.Writing.Laws.{rows-refused}
 use Rattle.table_writer.proofs.write_table.Statement.{statement}
 use Rattle.table_writer.proofs.write_table.Tie as tie
 
 write-rows-requires : tie.Need-write-rows-requires
-write-rows-requires c κs = let told = c.before in sym told.before.before.check-rows.ensures ∙ ap verdictOf told.enum_told.given.1
+write-rows-requires c κs = let told = c.before in sym told.before.before.check-rows.ensures ∙ ap verdict_of told.enum_told.given.1
 
 returns : tie.Need-returns
 returns c =
@@ -17,7 +17,7 @@ returns c =
     let a = checked.before.before.before.before.args in
     record {
       answer = sym (rows-refused a.n a.used a.rows.now a.names.now (length a.out.now) _
-          (sym checked.check-rows.ensures ∙ ap verdictOf told.checked.given.1));
+          (sym checked.check-rows.ensures ∙ ap verdict_of told.checked.given.1));
       output = refl;
     }
 

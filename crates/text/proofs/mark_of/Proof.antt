@@ -2,11 +2,11 @@
 use mathlib.Core.Path.{◌≡◌, refl}
 use Prim.Native.Nat.{ℕ, zero, suc}
 use borrow.Author.Rules.{rules}
-use Rattle.text.specs.Text.{markText}
+use Rattle.text.specs.Text.{mark_text}
 use Rattle.text.proofs.mark_of.Statement.{statement}
 use Rattle.text.proofs.mark_of.Tie as tie
 
-member : (d : ℕ) → (d ≡ 0 → ⊥) → 88 ≡ markText d
+member : (d : ℕ) → (d ≡ 0 → ⊥) → 88 ≡ mark_text d
 member zero h = absurd (h refl)
 member (suc d) h = refl
 

@@ -2,7 +2,7 @@
 use mathlib.Core.Path.{◌≡◌, sym, ap, ◌∙◌}
 use Prim.Native.Nat.{ℕ, ◌+◌, ◌/◌, ◌%◌}
 use borrow.Author.Rules.{rules}
-use Rattle.text.specs.Text.{numberText}
+use Rattle.text.specs.Text.{number_text}
 use Rattle.text.specs.Text.Digits.{low, lead}
 use Rattle.text.specs.Text.Digits.Laws.{digit-next, digit-end}
 use Rattle.text.specs.Page.{page, text}
@@ -12,7 +12,7 @@ use Rattle.text.proofs.put_number.Tie as tie
 
 abbrev invariant-loop : tie.invariant-loop
 invariant-loop out₀ at n to₀ power₀ out to power =
-    (k : ℕ) × (power ≡ lead k) × (text (page out to) (low k n) ≡ text (page out₀ at) (numberText n))
+    (k : ℕ) × (power ≡ lead k) × (text (page out to) (low k n) ≡ text (page out₀ at) (number_text n))
 
 abbrev decreases-loop : tie.decreases-loop
 decreases-loop out₀ at n to₀ power₀ out to power = power

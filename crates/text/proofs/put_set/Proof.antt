@@ -5,28 +5,28 @@ use Prim.Native.Nat.{ℕ, suc, ◌+◌, ◌-◌, ◌/◌, ◌%◌, ◌≤◌, �
 use borrow.Author.Rules.{rules}
 use native.Mathlib.Omega.{arith}
 use native.Mathlib.Nat.{sub-zero}
-use Rattle.text.specs.Text.{markText, setText}
+use Rattle.text.specs.Text.{mark_text, set_text}
 use Rattle.text.specs.Page.{page, text}
 use Rattle.text.specs.Page.Laws.{text-step, text-end, same_size}
 use Rattle.text.proofs.put_set.Statement.{statement}
 use Rattle.text.proofs.put_set.Tie as tie
 
 -- the mark of the attribute at i, then those after it
-marks-at : (n i w : ℕ) → i < n → setText (n - i) w ≡ markText (w % 2) ∷ setText (n - (i + 1)) (w / 2)
-unfolding setText
+marks-at : (n i w : ℕ) → i < n → set_text (n - i) w ≡ mark_text (w % 2) ∷ set_text (n - (i + 1)) (w / 2)
+unfolding set_text
 marks-at n i w h =
     let e : n - i ≡ suc (n - (i + 1)) = omega arith in
     rw e
 
 -- no mark is left
-marks-end : (n i w : ℕ) → n ≤ i → setText (n - i) w ≡ []
-unfolding setText
+marks-end : (n i w : ℕ) → n ≤ i → set_text (n - i) w ≡ []
+unfolding set_text
 marks-end n i w h =
     let e : n - i ≡ 0 = omega arith in
     rw e
 
 abbrev invariant-loop : tie.invariant-loop
-invariant-loop out₀ at n set to₀ left₀ i₀ out to left i = text (page out to) (setText (n - i) left) ≡ text (page out₀ at) (setText n set)
+invariant-loop out₀ at n set to₀ left₀ i₀ out to left i = text (page out to) (set_text (n - i) left) ≡ text (page out₀ at) (set_text n set)
 
 abbrev decreases-loop : tie.decreases-loop
 decreases-loop out₀ at n set to₀ left₀ i₀ out to left i = n - i
@@ -50,7 +50,7 @@ loop-again c =
     let a = (start (turn (put c))).args in
     let p = page l.out l.to in
     let m = (put c).before.mark_of.ensures in
-    text-step p (markText (l.left % 2)) (setText (a.n - (l.i + 1)) (l.left / 2))
+    text-step p (mark_text (l.left % 2)) (set_text (a.n - (l.i + 1)) (l.left / 2))
     ((put c).put_byte.ensures ∙ ap (λ (b : ℕ). text p (b ∷ [])) m)
     ∙ ap (text p) (sym (marks-at a.n l.i l.left (search rules))) ∙ l.inv
 

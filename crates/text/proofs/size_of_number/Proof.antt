@@ -5,7 +5,7 @@ use Prim.Native.Nat.{ℕ, zero, suc, ◌+◌, ◌/◌, ◌%◌, ◌^◌, ◌≤�
 use native.Mathlib.Omega.{arith}
 use lib.ListN.{length, length-append}
 use borrow.Author.Tests.{lt-ltb, le-ltb}
-use Rattle.text.specs.Text.{digits, numberText}
+use Rattle.text.specs.Text.{digits, number_text}
 use Rattle.text.proofs.size_of_number.Statement.{statement}
 use Rattle.text.proofs.size_of_number.Tie as tie
 
@@ -26,7 +26,7 @@ next (suc j) n h l = (j, refl, omega arith)
 -- with those passed, the digits of what is left are all of them, and one more: its own first digit is counted already
 abbrev invariant-loop : tie.invariant-loop
 invariant-loop n left₀ size₀ left size =
-    (1 ≤ size) × (k : ℕ) × (size + k ≡ 20) × (left < 10 ^ suc k) × (size + length (digits (suc k) left) ≡ length (numberText n) + 1)
+    (1 ≤ size) × (k : ℕ) × (size + k ≡ 20) × (left < 10 ^ suc k) × (size + length (digits (suc k) left) ≡ length (number_text n) + 1)
 
 abbrev decreases-loop : tie.decreases-loop
 decreases-loop n left₀ size₀ left size = left

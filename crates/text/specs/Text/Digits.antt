@@ -1,6 +1,6 @@
 -- The digits of a number from the first to the last: a power of ten says where the first one stands, and each next power the next.
 use Rattle.std.specs.Prelude.{◌≡◌, List, [], ◌∷◌, ◌++◌, ℕ, zero, suc, ◌+◌, ◌/◌, ◌%◌, ◌^◌}
-use Rattle.text.specs.Text.{numberText}
+use Rattle.text.specs.Text.{number_text}
 pub mod Laws
 
 -- the last k digits, leading zeros too
@@ -17,4 +17,4 @@ lead (suc k) = 10 ^ k
 pub record Leads (n power : ℕ) : Type 0 where
   pub size : ℕ
   pub first : power ≡ lead size
-  pub whole : numberText n ≡ low size n
+  pub whole : number_text n ≡ low size n

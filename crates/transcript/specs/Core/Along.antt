@@ -17,16 +17,16 @@ use Rattle.attribute_set.specs.Words.{words}
 use Rattle.implication.specs.Closure.{implication, closure}
 use Rattle.implication.specs.Closure.Laws.{closed-closure}
 use Rattle.context.specs.Places.Laws.{all-anywhere}
-use Rattle.context.specs.Objects.{Object, refutes, refutesWritten, contradicts}
+use Rattle.context.specs.Objects.{Object, refutes, refutes_written, contradicts}
 use Rattle.context.specs.Objects.Laws.{apart-marked}
 use Rattle.context.specs.Tables.{Table, AgreesObject, AgreesImplication}
 use Rattle.context.specs.Tables.Laws.{no-contradiction}
-use Rattle.session.specs.Limits.{badLength, mostAttributes, mostObjects, mostImplications}
+use Rattle.session.specs.Limits.{bad_length, most_attributes, most_objects, most_implications}
 use Rattle.written_marks.specs.Written.Laws.{Settled, refutes-written, reach-written}
-use Rattle.machine.specs.Checks.{State, force, reachOf, question, strange, strangeObject, strangeImplication, outsideM, firstFailing, sessionChecks}
+use Rattle.machine.specs.Checks.{State, force, reach_of, question, strange, strange_object, strange_implication, outside_m, first_failing, session_checks}
 use Rattle.machine.specs.Checks.Laws.{InM, Passed, none-failing, or-false}
-use Rattle.demands.specs.Demand3.Invariant.{Reached, current-in}
-use Rattle.written_machine.specs.Reading.{writtenReach, writtenQuestion}
+use Rattle.demands.specs.Demand3.Invariant.{Reached, current_in}
+use Rattle.written_machine.specs.Reading.{written_reach, written_question}
 
 -- two different rows
 abbrev pub Differ : Object → Object → Type 0
@@ -35,15 +35,15 @@ Differ x y = x ≡ y → ⊥
 -- what holds from the opening on
 pub record Along (table : List Object) (s : State) (changes : ℕ) : Type 0 where
   pub complete : Table s.n table
-  pub attributes : (eqb s.n 0 || ltb mostAttributes s.n) ≡ false
-  pub lengths : (badLength mostObjects s.lent.rows || (badLength mostImplications s.lent.list || badLength mostImplications s.lent.background)) ≡ false
+  pub attributes : (eqb s.n 0 || ltb most_attributes s.n) ≡ false
+  pub lengths : (bad_length most_objects s.lent.rows || (bad_length most_implications s.lent.list || bad_length most_implications s.lent.background)) ≡ false
   pub background : s.background ≡ []
   -- the rows are rows of the table, each filed once, and the table agrees with the list
   pub rows : All (λ o. Memᴰ o table) s.rows
   pub different : Pairwise Differ s.rows
   pub list : All (AgreesImplication table) s.list
-  pub row-places : length s.rows ≤ s.lent.rows / 2
-  pub list-places : length s.list ≤ s.lent.list / 2
+  pub row_places : length s.rows ≤ s.lent.rows / 2
+  pub list_places : length s.list ≤ s.lent.list / 2
   -- every change goes on to a later set
   pub counts : changes ≤ rank s.n s.current
   pub reached : Reached s
@@ -54,24 +54,24 @@ pub or-none : (a b : Bool) → a ≡ false → b ≡ false → (a || b) ≡ fals
 or-none a b e f = rw (e, f) refl
 
 -- marks inside M, and implications over M, are familiar
-pub in-familiar : (n : ℕ) (o : Object) → InM n o → strangeObject n o ≡ false
+pub in-familiar : (n : ℕ) (o : Object) → InM n o → strange_object n o ≡ false
 unfolding strange
-in-familiar n o h = or-none _ _ (ap not (sub-inside h.yes-marks)) (ap not (sub-inside h.no-marks))
+in-familiar n o h = or-none _ _ (ap not (sub-inside h.yes_marks)) (ap not (sub-inside h.no_marks))
 
-over-familiar : (n : ℕ) (r : Implication ℕ) → Over words (full n) r → strangeImplication n r ≡ false
+over-familiar : (n : ℕ) (r : Implication ℕ) → Over words (full n) r → strange_implication n r ≡ false
 unfolding strange
 over-familiar n r h = or-none _ _ (ap not (sub-inside h.premise)) (ap not (sub-inside h.conclusion))
 
 -- a table agrees with its own rows
 pub own_row : (table : List Object) (o : Object) → Memᴰ o table → AgreesObject table o
-own_row table o m = record { by = o; member = m; extends = record { yes-marks = sub_refl _; no-marks = sub_refl _ } }
+own_row table o m = record { by = o; member = m; extends = record { yes_marks = sub_refl _; no_marks = sub_refl _ } }
 
 module _ (table : List Object) (s : State) (changes : ℕ) (a : Along table s changes) where
   -- the marks of a row of the table lie inside M
   pub row_in : (o : Object) → Memᴰ o table → InM s.n o
   row_in o m =
       let c = a.complete o m in
-      record { yes-marks = rw (← c.whole) (or_left o.yes-marks o.no-marks); no-marks = rw (← c.whole) (or_right o.yes-marks o.no-marks) }
+      record { yes_marks = rw (← c.whole) (or_left o.yes_marks o.no_marks); no_marks = rw (← c.whole) (or_right o.yes_marks o.no_marks) }
 
   -- the table agrees with the implications in force
   pub agrees-force : All (AgreesImplication table) (force s)
@@ -84,29 +84,29 @@ module _ (table : List Object) (s : State) (changes : ℕ) (a : Along table s ch
 
   -- ---- by written marks
 
-  pub few-attributes : s.n ≤ mostAttributes
-  few-attributes = ltb-false _ _ (or-false (eqb s.n 0) (ltb mostAttributes s.n) a.attributes).1
+  pub few-attributes : s.n ≤ most_attributes
+  few-attributes = ltb-false _ _ (or-false (eqb s.n 0) (ltb most_attributes s.n) a.attributes).1
 
   settled : (o : Object) → Memᴰ o table → Settled s.n (force s) o
   settled o m = record { complete = a.complete o m; agrees = row-consistent o m }
 
-  pub same-refutes : (o : Object) → Memᴰ o table → (r : Implication ℕ) → refutes (force s) o r ≡ refutesWritten o r
+  pub same-refutes : (o : Object) → Memᴰ o table → (r : Implication ℕ) → refutes (force s) o r ≡ refutes_written o r
   same-refutes o m r = refutes-written s.n few-attributes (force s) a.reached.over o (settled o m) r
 
-  pub same-reach : reachOf s ≡ writtenReach s
+  pub same-reach : reach_of s ≡ written_reach s
   same-reach = reach-written s.n few-attributes (force s) a.reached.over s.rows (λ o m. settled o (a.rows o m)) s.n s.current
 
-  pub same-question : question s ≡ writtenQuestion s
+  pub same-question : question s ≡ written_question s
   same-question = ap (λ x. implication s.current (without x s.current)) same-reach
 
   -- ---- the checks
 
   -- nothing has an attribute outside M, and the current set is closed
-  familiar : outsideM s [] ≡ false
-  unfolding outsideM
+  familiar : outside_m s [] ≡ false
+  unfolding outside_m
   familiar =
       or-none _ _ (all-anywhere _ s.rows (λ o m. in-familiar s.n o (row_in o (a.rows o m))))
-      (or-none _ _ (all-anywhere _ (force s ++ []) (λ r m. over-familiar s.n r (over r m))) (ap not (sub-inside (current-in s a.reached))))
+      (or-none _ _ (all-anywhere _ (force s ++ []) (λ r m. over-familiar s.n r (over r m))) (ap not (sub-inside (current_in s a.reached))))
     where
       over : All (Over words (full s.n)) (force s ++ [])
       over = subst (λ l. All (Over words (full s.n)) l) (sym (append-nil (force s))) a.reached.over
@@ -116,14 +116,14 @@ module _ (table : List Object) (s : State) (changes : ℕ) (a : Along table s ch
       let here = a.reached.explored.here in
       closed-closure (force s) (all_append s.background s.list here.base.closed here.closed)
 
-  all-passed : Passed (sessionChecks s [])
-  unfolding sessionChecks
+  all-passed : Passed (session_checks s [])
+  unfolding session_checks
   all-passed =
-      let places = or-none _ _ (le-ltb _ _ a.row-places) (le-ltb _ _ a.list-places) in
+      let places = or-none _ _ (le-ltb _ _ a.row_places) (le-ltb _ _ a.list_places) in
       let once = all-anywhere _ s.rows (λ o m. apart-marked o (a.complete o (a.rows o m)).apart) in
       let consistent = all-anywhere _ s.rows a.reached.consistent in
       (a.attributes, (a.lengths, (places, (familiar, (once, (consistent, (ap not (eq-eqb _ _ closed), tt)))))))
 
 -- the checks of a session pass
-pub session-passes : (table : List Object) (s : State) (changes : ℕ) → Along table s changes → firstFailing (sessionChecks s []) ≡ none
-session-passes table s changes a = none-failing (sessionChecks s []) (all-passed table s changes a)
+pub session-passes : (table : List Object) (s : State) (changes : ℕ) → Along table s changes → first_failing (session_checks s []) ≡ none
+session-passes table s changes a = none-failing (session_checks s []) (all-passed table s changes a)

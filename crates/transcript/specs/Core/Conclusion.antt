@@ -16,15 +16,15 @@ use Rattle.context.specs.Objects.{Object}
 use Rattle.context.specs.Tables.{Table}
 use Rattle.context.specs.Tables.Laws.{follows-tables}
 use Rattle.machine.specs.Checks.{Lent, State, force, question}
-use Rattle.machine.specs.Machine.{step, finished, performed, checksOf, opening, opened, afterFiling, afterYes}
+use Rattle.machine.specs.Machine.{step, finished, performed, checks_of, opening, opened, after_filing, after_yes}
 use Rattle.machine.specs.Machine.Laws.{perform-accepted, step-cases, opened-is}
 use Rattle.demands.specs.Demand3.{OverM, Finished}
 use Rattle.demands.specs.Demand3.Theorem.{decided, shortest}
-use Rattle.output_lines.specs.Lines.{yesLine, noLine, listLines}
-use Rattle.closing_lines.specs.Closing.{endLine, refusalLine}
+use Rattle.output_lines.specs.Lines.{yes_line, no_line, list_lines}
+use Rattle.closing_lines.specs.Closing.{end_line, refusal_line}
 use Rattle.transcript.specs.Output.{Beat, more, last, beat, beats, enough}
 use Rattle.transcript.specs.Output.Ends.{measure, measure-enough, beat-falls}
-use Rattle.transcript.specs.Core.{counted, noPlace, coreNo, coreYes, coreReply, coreBeat}
+use Rattle.transcript.specs.Core.{counted, no_place_refusal, core_no, core_yes, core_reply, core_beat}
 use Rattle.transcript.specs.Ending.{Decides, Concluded, Full}
 use Rattle.transcript.specs.Core.Along.{Along, agrees-force, same-refutes, session-passes}
 use Rattle.transcript.specs.Core.Beats.{Refuting, reply-cases, rows-fewer, core-last, core-moved, core-asked, core-beat}
@@ -33,7 +33,7 @@ use Rattle.transcript.specs.Core.Kept.{core-kept, opened-along}
 -- the same, and the reply is a yes, or the table has more rows than there are places lent for them
 pub record RefusedReply (n : ℕ) (table : List Object) (lent : Lent) (text : List ℕ) : Type 0 where
   pub refused : Full n text
-  pub short : (refused.reply ≡ yesLine n refused.question) ⊎ (lent.rows / 2 < length table)
+  pub short : (refused.reply ≡ yes_line n refused.question) ⊎ (lent.rows / 2 < length table)
 
 -- how the output ends
 abbrev pub Ends : ℕ → List Object → Lent → List ℕ → Type 0
@@ -48,7 +48,7 @@ module _ (table : List Object) (s : State) (changes : ℕ) (a : Along table s ch
 
   module _ (end : s.current ≡ full s.n) where
     is-finished : Finished s
-    unfolding performed checksOf
+    unfolding performed checks_of
     is-finished =
         ap (λ t. t.answer) (perform-accepted s step (session-passes table s changes a))
         ∙ step-cases s (λ t. t.answer ≡ finished) (λ e. refl) (λ ne e. absurd (ne end)) (λ ne d. absurd (ne end))
@@ -65,7 +65,7 @@ module _ (table : List Object) (s : State) (changes : ℕ) (a : Along table s ch
         (λ b. (r : Implication ℕ) → OverM s.n r → (follows (b ++ s.list) r ≡ true) ↔ (follows (b ++ l) r ≡ true)) (sym a.background)
         (λ r i. (λ e. (decides r i).1 ((list-decides r i).0 e), λ e. (list-decides r i).1 ((decides r i).0 e))))
 
-    concluded : Concluded s.n table (listLines s.n s.list ++ endLine (length s.list) (length s.rows) changes)
+    concluded : Concluded s.n table (list_lines s.n s.list ++ end_line (length s.list) (length s.rows) changes)
     concluded = record {
       before = [];
       list = s.list;
@@ -114,21 +114,21 @@ same_line line line' e = cc
 
 module _ (table : List Object) (s : State) (changes : ℕ) (a : Along table s changes) (line : List ℕ) where
   -- a reply that ends the interview is refused for want of a place; the row of a no is one more than those filed
-  no-refused : (number : ℕ) (o : Object) → Refuting table (question s) o → coreNo s changes (question s) number o ≡ last line
+  no-refused : (number : ℕ) (o : Object) → Refuting table (question s) o → core_no s changes (question s) number o ≡ last line
       → RefusedReply s.n table s.lent line
-  unfolding coreNo
+  unfolding core_no
   no-refused number o r = go (leb (s.lent.rows / 2) (length s.rows)) refl
     where
       go : (b : Bool) → leb (s.lent.rows / 2) (length s.rows) ≡ b
           → ◌≡◌ {A = Beat} (elim b [
-            | true ↦ last (noLine s.n (question s) number ++ refusalLine noPlace)
-            | false ↦ more (noLine s.n (question s) number) (afterFiling s o) changes
+            | true ↦ last (no_line s.n (question s) number ++ refusal_line no_place_refusal)
+            | false ↦ more (no_line s.n (question s) number) (after_filing s o) changes
           ]) (last line) → RefusedReply s.n table s.lent line
       go true f e = record {
         refused = record {
           before = [];
           question = question s;
-          reply = noLine s.n (question s) number;
+          reply = no_line s.n (question s) number;
           replies = inr (number, refl);
           whole = sym (same_line _ _ e);
         };
@@ -136,26 +136,26 @@ module _ (table : List Object) (s : State) (changes : ℕ) (a : Along table s ch
       }
       go false f e = absurd (not_last _ _ _ _ e)
 
-  yes-refused : coreYes s changes (question s) ≡ last line → RefusedReply s.n table s.lent line
-  unfolding coreYes
+  yes-refused : core_yes s changes (question s) ≡ last line → RefusedReply s.n table s.lent line
+  unfolding core_yes
   yes-refused = go (leb (s.lent.list / 2) (length s.list))
     where
       go : (b : Bool)
           → ◌≡◌ {A = Beat} (elim b [
-            | true ↦ last (yesLine s.n (question s) ++ refusalLine noPlace)
-            | false ↦ more (yesLine s.n (question s)) (afterYes s) (counted changes)
+            | true ↦ last (yes_line s.n (question s) ++ refusal_line no_place_refusal)
+            | false ↦ more (yes_line s.n (question s)) (after_yes s) (counted changes)
           ]) (last line) → RefusedReply s.n table s.lent line
       go true e = record {
-        refused = record { before = []; question = question s; reply = yesLine s.n (question s); replies = inl refl; whole = sym (same_line _ _ e) };
+        refused = record { before = []; question = question s; reply = yes_line s.n (question s); replies = inl refl; whole = sym (same_line _ _ e) };
         short = inl refl;
       }
       go false e = absurd (not_last _ _ _ _ e)
 
-  reply-refused : coreReply table s changes (question s) ≡ last line → RefusedReply s.n table s.lent line
+  reply-refused : core_reply table s changes (question s) ≡ last line → RefusedReply s.n table s.lent line
   reply-refused =
       reply-cases table s changes (question s) (λ b. b ≡ last line → RefusedReply s.n table s.lent line) no-refused (λ agrees. yes-refused)
 
-  last-ends : coreBeat table s changes ≡ last line → Ends s.n table s.lent line
+  last-ends : core_beat table s changes ≡ last line → Ends s.n table s.lent line
   last-ends k =
       step-cases s (λ t. Ends s.n table s.lent line)
       (λ e. subst (λ t. Ends s.n table s.lent t) (same_line _ _ (sym (core-last table s changes e) ∙ k)) (inl (concluded table s changes a e)))
@@ -178,8 +178,8 @@ ends-within (suc k) table s changes a l = go (beat table s changes) refl (λ s' 
         let kept = core-kept table s changes a line s' c' (sym (core-beat table s changes a) ∙ e) in
         let less = (beat-falls table s changes a.reached line s' c' e).less in
         behind s.n table s.lent line _
-        (subst (λ n. Ends n table s.lent (beats k table s' c')) kept.same-n
-        (subst (λ t. Ends s'.n table t (beats k table s' c')) kept.same-lent (ih s' c' kept.along (omega (arith, less)))))
+        (subst (λ n. Ends n table s.lent (beats k table s' c')) kept.same_n
+        (subst (λ t. Ends s'.n table t (beats k table s' c')) kept.same_lent (ih s' c' kept.along (omega (arith, less)))))
     go (last line) e ih = last-ends table s changes a line (sym (core-beat table s changes a) ∙ e)
 
 pub ends : (table : List Object) (n : ℕ) (lent : Lent) (s : State) → Table n table → opening n lent [] [] ≡ opened s

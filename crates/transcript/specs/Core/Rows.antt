@@ -9,19 +9,19 @@ use Rattle.context.specs.Objects.{Object}
 use Rattle.context.specs.Tables.{Table}
 use Rattle.machine.specs.Checks.{Lent, State}
 use Rattle.machine.specs.Machine.{opening, opened}
-use Rattle.output_lines.specs.Lines.{yesLine}
-use Rattle.closing_lines.specs.Closing.{refusalLine}
+use Rattle.output_lines.specs.Lines.{yes_line}
+use Rattle.closing_lines.specs.Closing.{refusal_line}
 use Rattle.transcript.specs.Output.{beats, enough}
-use Rattle.transcript.specs.Core.{noPlace}
+use Rattle.transcript.specs.Core.{no_place_refusal}
 use Rattle.transcript.specs.Ending.{Concluded, Full, ListFull}
 use Rattle.transcript.specs.Core.Conclusion.{Ends, ends}
 
 -- a refused yes
-yes-full : (n : ℕ) (text : List ℕ) (f : Full n text) → f.reply ≡ yesLine n f.question → ListFull n text
+yes-full : (n : ℕ) (text : List ℕ) (f : Full n text) → f.reply ≡ yes_line n f.question → ListFull n text
 yes-full n text f y = record {
   before = f.before;
   question = f.question;
-  whole = subst (λ line. text ≡ f.before ++ (line ++ refusalLine noPlace)) y f.whole;
+  whole = subst (λ line. text ≡ f.before ++ (line ++ refusal_line no_place_refusal)) y f.whole;
 }
 
 pub rows-suffice : (table : List Object) (n : ℕ) (lent : Lent) (s : State) → Table n table → opening n lent [] [] ≡ opened s
@@ -32,7 +32,7 @@ rows-suffice table n lent s complete e places = go (ends table n lent s complete
     text : List ℕ
     text = beats (enough s) table s 0
 
-    yes : (f : Full n text) → (f.reply ≡ yesLine n f.question) ⊎ (lent.rows / 2 < length table) → ListFull n text
+    yes : (f : Full n text) → (f.reply ≡ yes_line n f.question) ⊎ (lent.rows / 2 < length table) → ListFull n text
     yes f (inl y) = yes-full n text f y
     yes f (inr few) = absurd (omega arith)
 

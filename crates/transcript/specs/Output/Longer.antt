@@ -4,21 +4,21 @@ use Rattle.std.specs.Prelude.{◌≡◌, List, ℕ, ◌<◌, length, take}
 use Rattle.std.proofs.Common.{ap}
 use Rattle.session.specs.Refusals.{refusal}
 use Rattle.machine.specs.Checks.{Lent}
-use Rattle.table_layout.specs.Layout.{mostBytes, inputMost}
+use Rattle.table_layout.specs.Layout.{most_bytes, input_most}
 use Rattle.table_layout.specs.Layout.Laws.{opened-long, from-first-bytes}
 use Rattle.table_layout.specs.declared.Opened.{Opened}
-use Rattle.complete_tables.specs.Complete.{completeOf}
-use Rattle.closing_lines.specs.Closing.{refusalLine}
-use Rattle.transcript.specs.Output.{written, outputWith, output}
+use Rattle.complete_tables.specs.Complete.{complete_of}
+use Rattle.closing_lines.specs.Closing.{refusal_line}
+use Rattle.transcript.specs.Output.{written, output_with, output}
 
-long-output : (lent : Lent) (file : List ℕ) → mostBytes < length file → outputWith lent file ≡ refusalLine (refusal 21 mostBytes)
-unfolding outputWith
-long-output lent file h = ap (λ (o : Opened). written lent file (completeOf file o)) (opened-long file h)
+long-output : (lent : Lent) (file : List ℕ) → most_bytes < length file → output_with lent file ≡ refusal_line (refusal 21 most_bytes)
+unfolding output_with
+long-output lent file h = ap (λ (o : Opened). written lent file (complete_of file o)) (opened-long file h)
 
 -- with any places lent
-pub first-bytes : (lent : Lent) (file : List ℕ) → outputWith lent (take inputMost file) ≡ outputWith lent file
-first-bytes lent = from-first-bytes (outputWith lent) _ (long-output lent)
+pub first-bytes : (lent : Lent) (file : List ℕ) → output_with lent (take input_most file) ≡ output_with lent file
+first-bytes lent = from-first-bytes (output_with lent) _ (long-output lent)
 
 -- as the program lends them
-pub output-first : (file : List ℕ) → output (take inputMost file) ≡ output file
+pub output-first : (file : List ℕ) → output (take input_most file) ≡ output file
 output-first file = first-bytes _ file

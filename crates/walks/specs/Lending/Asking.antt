@@ -1,5 +1,5 @@
 -- A call that only reads: the record and three slices of words are lent to be read, with two words.
-use Rattle.walks.specs.Tools.{refl, [], ◌∷◌, Ura, Name, Fn, named, imm, w64, place, seq, call, return, flft, toks, ‵, raw, ◌⊛◌, ◌$◌, ◌∵◌, !, qed, move, drop, fjoin, look, init, stop, from, and_then, no_more, land, returns, enter, alloc1, alloc0, params1, pass1, pass0, free0, Is, shows, u64, uint_Lawful, shr_slice_Lawful, plain, owned, peeks, row, Clauses, called, copied, freed, reads, apart-shared-alone, given-back-shared-alone, Lendable, Enumerated, variants, function, lent_struct, struct, words, word, whole_of, reads_struct, shr-struct, own-struct, shr-slice, number, behind-first, Passing, lent, callee, held, sent, Walks, Passes, passes, ends}
+use Rattle.walks.specs.Tools.{refl, [], ◌∷◌, Ura, Name, Fn, named, imm, w64, place, seq, call, return, flft, toks, ‵, raw, ◌⊛◌, ◌$◌, ◌∵◌, !, qed, move, drop, fjoin, look, init, stop, from, and_then, no_more, land, returns, enter, alloc1, alloc0, params1, pass1, pass0, free0, Is, shows, u64, uint_Lawful, shr_slice_Lawful, plain, owned, peeks, row, Clauses, called, copied, freed, reads, apart-shared-alone, given-back-shared-alone, Lendable, Enumerated, variants, function, lent_struct, struct, words, word, whole_of, reads_struct, shr_struct, own_struct, shr_slice, number, behind_first, Passing, lent, callee, held, sent, Walks, Passes, passes, ends}
 use denote.Struct.Laws as LL
 use denote.Enum.Declared as ED
 use denote.Enum.Laws as EL
@@ -9,9 +9,9 @@ module _ (T : Lendable) (N : Enumerated) where
   -- the function, and the one that it calls
   abbrev pub passing : Passing
   passing = record {
-    own = record { lifetimes = 4; params = shr-struct 0 tt T ∷ shr-slice 1 tt w64 ∷ shr-slice 2 tt w64 ∷ shr-slice 3 tt w64 ∷ number w64 ∷ number w64 ∷ []; result = plain (λ κs. ED.row N.type) };
-    inner = record { lifetimes = 3; params = own-struct T ∷ shr-slice 0 tt w64 ∷ shr-slice 1 tt w64 ∷ shr-slice 2 tt w64 ∷ number w64 ∷ number w64 ∷ []; result = plain (λ κs. ED.row N.type) };
-    down = behind-first 3;
+    own = record { lifetimes = 4; params = shr_struct 0 tt T ∷ shr_slice 1 tt w64 ∷ shr_slice 2 tt w64 ∷ shr_slice 3 tt w64 ∷ number w64 ∷ number w64 ∷ []; result = plain (λ κs. ED.row N.type) };
+    inner = record { lifetimes = 3; params = own_struct T ∷ shr_slice 0 tt w64 ∷ shr_slice 1 tt w64 ∷ shr_slice 2 tt w64 ∷ number w64 ∷ number w64 ∷ []; result = plain (λ κs. ED.row N.type) };
+    down = behind_first 3;
     passed = λ κs a. (a.0.now, a.1);
     answer = λ κs r. r;
     left = λ κs a r ws. (tt, ws.1);
@@ -47,7 +47,7 @@ module _ (T : Lendable) (N : Enumerated) where
         (and_then ! (copied ! 3 refl) (and_then ! (copied ! 13 refl) (and_then ! (copied ! 11 refl) (and_then ! (copied ! 9 refl) (and_then ! (copied ! 7 refl) (and_then ! (copied ! 5 refl) (no_more !))))))) (λ v r ws.
         -- [the result; the tokens of the words; what is said of them; what the callee ensures; the record's; the locals]
         peeks ! (ED.row N.type) (Is (ED.row N.type)) (shows 𝓛 (ED.row N.type)) r (v ∷ []) (λ made.
-        land ! (from ! (stop !)) (init ! 20 refl ((N.as-field.lawful 𝓛).typed (N.type.to r) _ made).0) $ drop ! $
+        land ! (from ! (stop !)) (init ! 20 refl ((N.as_field.lawful 𝓛).typed (N.type.to r) _ made).0) $ drop ! $
         returns ! (look ! 19 refl) $
         freed ! 19 refl refl $ freed ! 17 refl refl $ freed ! 15 refl refl $ freed ! 13 refl refl $ freed ! 11 refl refl $ freed ! 9 refl refl $ freed ! 7 refl refl $ freed ! 5 refl refl $ free0 ! $
         move ! (2 ∷ []) $ ends passing 𝓛 c k ! _ κs qs a g g' enough r ws $ move ! (3 ∷ 4 ∷ 1 ∷ 2 ∷ 0 ∷ []) $

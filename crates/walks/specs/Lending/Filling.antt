@@ -1,5 +1,5 @@
 -- A call that writes the first of three slices of words, with three words; the record is lent to be written and stays.
-use Rattle.walks.specs.Tools.{refl, [], ◌∷◌, Ura, Name, Fn, named, erased, mut, imm, w64, place, seq, call, return, flft, toks, ‵, raw, ◌⊛◌, ◌$◌, ◌∵◌, !, qed, move, drop, fjoin, look, init, stop, hop, fld, from, addr, and_then, no_more, land, returns, enter, alloc1, alloc0, params1, pass1, pass0, free0, agg, whole, sub, look_in, Is, shows, u64, uint_Lawful, shr_slice_Lawful, mut_slice_Lawful, plain, owned, peeks, row, Clauses, called, copied, field-of, sets, freed, loads, apart-alone, given-back-alone, Lendable, Enumerated, variants, function, lent_struct, struct, words, word, pointer, whole_of, reads_struct, takes-address, makes-slice, mut-struct, own-struct, mut_slice, shr-slice, number, behind-first, Passing, lent, callee, held, sent, Walks, Passes, passes, ends}
+use Rattle.walks.specs.Tools.{refl, [], ◌∷◌, Ura, Name, Fn, named, erased, mut, imm, w64, place, seq, call, return, flft, toks, ‵, raw, ◌⊛◌, ◌$◌, ◌∵◌, !, qed, move, drop, fjoin, look, init, stop, hop, fld, from, addr, and_then, no_more, land, returns, enter, alloc1, alloc0, params1, pass1, pass0, free0, agg, whole, sub, look_in, Is, shows, u64, uint_Lawful, shr_slice_Lawful, mut_slice_Lawful, plain, owned, peeks, row, Clauses, called, copied, field-of, sets, freed, loads, apart-alone, given-back-alone, Lendable, Enumerated, variants, function, lent_struct, struct, words, word, pointer, whole_of, reads_struct, takes_address, makes_slice, mut_struct, own_struct, mut_slice, shr_slice, number, behind_first, Passing, lent, callee, held, sent, Walks, Passes, passes, ends}
 use denote.Struct.Laws as LL
 use denote.Enum.Declared as ED
 use denote.Enum.Laws as EL
@@ -9,9 +9,9 @@ module _ (T : Lendable) (N : Enumerated) where
   -- the function, and the one that it calls
   abbrev pub passing : Passing
   passing = record {
-    own = record { lifetimes = 4; params = mut-struct 0 tt T ∷ mut_slice 1 tt w64 ∷ shr-slice 2 tt w64 ∷ shr-slice 3 tt w64 ∷ number w64 ∷ number w64 ∷ number w64 ∷ []; result = plain (λ κs. ED.row N.type) };
-    inner = record { lifetimes = 3; params = own-struct T ∷ mut_slice 0 tt w64 ∷ shr-slice 1 tt w64 ∷ shr-slice 2 tt w64 ∷ number w64 ∷ number w64 ∷ number w64 ∷ []; result = plain (λ κs. ED.row N.type) };
-    down = behind-first 3;
+    own = record { lifetimes = 4; params = mut_struct 0 tt T ∷ mut_slice 1 tt w64 ∷ shr_slice 2 tt w64 ∷ shr_slice 3 tt w64 ∷ number w64 ∷ number w64 ∷ number w64 ∷ []; result = plain (λ κs. ED.row N.type) };
+    inner = record { lifetimes = 3; params = own_struct T ∷ mut_slice 0 tt w64 ∷ shr_slice 1 tt w64 ∷ shr_slice 2 tt w64 ∷ number w64 ∷ number w64 ∷ number w64 ∷ []; result = plain (λ κs. ED.row N.type) };
+    down = behind_first 3;
     passed = λ κs a. (a.0.now, a.1);
     answer = λ κs r. r;
     left = λ κs a r ws. (a.0.now, ws.1);
@@ -21,8 +21,8 @@ module _ (T : Lendable) (N : Enumerated) where
   abbrev pub filling : Name → Fn
   filling n = function 4 7 (variants N.type ∷ lent_struct 0 mut T.type ∷ words (named 1) mut ∷ words (named 2) imm ∷ words (named 3) imm ∷ word ∷ word ∷ word ∷ struct T.type ∷ pointer ∷ words erased mut ∷ [])
       (seq (reads_struct 8 1 T.type)
-      (seq (takes-address 9 2)
-      (seq (makes-slice 10 9 2)
+      (seq (takes_address 9 2)
+      (seq (makes_slice 10 9 2)
       (seq (call n (whole_of 8 ∷ whole_of 10 ∷ whole_of 3 ∷ whole_of 4 ∷ whole_of 5 ∷ whole_of 6 ∷ whole_of 7 ∷ []) (place 0 [])) return))))
 
   module _ {M : Type 1} {𝓤 : Ura M} (𝓛 : Logic 𝓤) (c : Clauses 𝓤 (lent passing)) (k : Clauses 𝓤 (callee passing)) where
@@ -53,7 +53,7 @@ module _ (T : Lendable) (N : Enumerated) where
         (and_then ! (copied ! 8 refl) (and_then ! (copied ! 4 refl) (and_then ! (copied ! 18 refl) (and_then ! (copied ! 16 refl) (and_then ! (copied ! 14 refl) (and_then ! (copied ! 12 refl) (and_then ! (copied ! 10 refl) (no_more !)))))))) (λ v r ws.
         -- [the result; the tokens of the words; what is said of them; what the callee ensures; the record's; the locals]
         peeks ! (ED.row N.type) (Is (ED.row N.type)) (shows 𝓛 (ED.row N.type)) r (v ∷ []) (λ made.
-        land ! (from ! (stop !)) (init ! 27 refl ((N.as-field.lawful 𝓛).typed (N.type.to r) _ made).0) $ drop ! $
+        land ! (from ! (stop !)) (init ! 27 refl ((N.as_field.lawful 𝓛).typed (N.type.to r) _ made).0) $ drop ! $
         returns ! (look ! 26 refl) $
         freed ! 26 refl refl $ freed ! 24 refl refl $ freed ! 22 refl refl $ freed ! 20 refl refl $ freed ! 18 refl refl $ freed ! 16 refl refl $ freed ! 14 refl refl $ freed ! 12 refl refl $
         freed ! 10 refl refl $ freed ! 8 refl refl $ freed ! 6 refl refl $ free0 ! $

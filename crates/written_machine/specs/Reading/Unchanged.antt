@@ -7,7 +7,7 @@ use Rattle.context.specs.Objects.{contradicts}
 use Rattle.context.specs.Tables.{Complete}
 use Rattle.machine.specs.Checks.{State, force}
 use Rattle.machine.specs.Machine.{Call, step, accept, reject, follow, refute, test, file, fill, perform}
-use Rattle.written_machine.specs.Reading.{writtenPerform}
+use Rattle.written_machine.specs.Reading.{written_perform}
 pub mod Theorem
 
 -- the row that a call offers to the question, if any, is complete and does not contradict the implications in force; of a filed row and
@@ -23,4 +23,4 @@ OffersComplete s (file o) = Unit {0}
 OffersComplete s (fill k m) = Unit {0}
 
 pub record Unchanged : Type 0 where
-  pub unchanged : (s : State) (c : Call) → All (Complete s.n) s.rows → OffersComplete s c → perform s c ≡ writtenPerform s c
+  pub unchanged : (s : State) (c : Call) → All (Complete s.n) s.rows → OffersComplete s c → perform s c ≡ written_perform s c

@@ -4,7 +4,7 @@ use mathlib.Core.Bool.{Bool}
 use native.Mathlib.Omega.{arith}
 use Rattle.implication.specs.Closure.{implication}
 use Rattle.context.specs.Places.{lowest}
-use Rattle.context.specs.Objects.{Object, objectsOf, refutesWritten, firstWritten}
+use Rattle.context.specs.Objects.{Object, objects_of, refutes_written, first_written}
 use Rattle.context.specs.Objects.Laws.{whole, lowest-whole, lowest-none, past-written}
 use borrow.Author.Rules.{rules}
 use Rattle.written_marks.proofs.first_refuting.Statement.{statement}
@@ -14,26 +14,26 @@ abbrev start : tie.After-smaller → tie.Start
 start c = c.before.before
 
 abbrev test : tie.After-smaller → Object → Bool
-test c o = let a = (start c).args in refutesWritten o (implication a.premise a.conclusion)
+test c o = let a = (start c).args in refutes_written o (implication a.premise a.conclusion)
 
 -- what the call gives, for the number of whole objects
 found : (c : tie.After-refuting-among)
     → let a = (start c.before).args in
-    c.refuting-among.result ≡ lowest (test c.before) (objectsOf (whole a.count a.rows.now) a.rows.now)
-unfolding firstWritten
+    c.refuting-among.result ≡ lowest (test c.before) (objects_of (whole a.count a.rows.now) a.rows.now)
+unfolding first_written
 found c =
     let d = c.before in
-    c.refuting-among.ensures ∙ ap (λ k. lowest (test d) (objectsOf k (start d).args.rows.now)) d.smaller.ensures
+    c.refuting-among.ensures ∙ ap (λ k. lowest (test d) (objects_of k (start d).args.rows.now)) d.smaller.ensures
 
 returns : tie.Need-returns
-unfolding firstWritten
+unfolding first_written
 returns c =
     let d = c.before.before in
     let a = (start d).args in
     found c.before ∙ sym (lowest-whole (test d) (past-written _) a.count a.rows.now (omega (arith, found c.before, d.smaller.ensures)))
 
 returns-2 : tie.Need-returns-2
-unfolding firstWritten
+unfolding first_written
 returns-2 c =
     let d = c.before.before in
     let a = (start d).args in

@@ -9,18 +9,18 @@ use lib.ListN.{drop}
 use Rattle.implication.specs.Closure.{implication}
 use Rattle.context.specs.Places.{lowest}
 use Rattle.context.specs.Places.Search.{pair_found, pair-passed, pair-none}
-use Rattle.context.specs.Objects.{Object, object, objectsOf, refutesWritten, firstWritten}
+use Rattle.context.specs.Objects.{Object, object, objects_of, refutes_written, first_written}
 use Rattle.written_marks.proofs.refuting_among.Statement.{statement}
 use Rattle.written_marks.proofs.refuting_among.Tie as tie
 
 -- the test of an object
 abbrev test : ℕ → ℕ → Object → Bool
-test premise conclusion o = refutesWritten o (implication premise conclusion)
+test premise conclusion o = refutes_written o (implication premise conclusion)
 
 abbrev invariant-loop : tie.invariant-loop
 invariant-loop rows count premise conclusion place₀ place =
     (place ≤ count)
-    × (place + lowest (test premise conclusion) (objectsOf (count - place) (drop (place * 2) rows)) ≡ lowest (test premise conclusion) (objectsOf count rows))
+    × (place + lowest (test premise conclusion) (objects_of (count - place) (drop (place * 2) rows)) ≡ lowest (test premise conclusion) (objects_of count rows))
 
 abbrev decreases-loop : tie.decreases-loop
 decreases-loop rows count premise conclusion place₀ place = count - place
@@ -36,7 +36,7 @@ loop-holds : tie.Need-loop-init invariant-loop decreases-loop
 loop-holds c = (omega arith, rw sub-zero (omega arith))
 
 returns : tie.Need-returns invariant-loop decreases-loop
-unfolding firstWritten
+unfolding first_written
 returns c =
     let l = (at c.before).loop in
     let a = (start (at c.before)).args in
@@ -53,7 +53,7 @@ loop-again c =
     )
 
 returns-2 : tie.Need-returns-2 invariant-loop decreases-loop
-unfolding firstWritten
+unfolding first_written
 returns-2 c =
     let l = c.before.loop in
     let a = (start c.before).args in

@@ -6,15 +6,15 @@ use native.Mathlib.Omega.{arith}
 use native.Mathlib.Nat.{sub-zero}
 use lib.ListN.{drop}
 use Rattle.implication.specs.Pairs.Laws.{pairs-at, pairs_end}
-use Rattle.context.specs.Objects.{object, objectsOf}
-use Rattle.written_marks.specs.Written.{narrowWritten}
+use Rattle.context.specs.Objects.{object, objects_of}
+use Rattle.written_marks.specs.Written.{narrow_written}
 use Rattle.written_reach.proofs.narrow_by.Statement.{statement}
 use Rattle.written_reach.proofs.narrow_by.Tie as tie
 
 abbrev invariant-loop : tie.invariant-loop
 invariant-loop rows count set x left₀ i₀ left i =
     (i ≤ count)
-    × (narrowWritten set (objectsOf (count - i) (drop (i * 2) rows)) left ≡ narrowWritten set (objectsOf count rows) x)
+    × (narrow_written set (objects_of (count - i) (drop (i * 2) rows)) left ≡ narrow_written set (objects_of count rows) x)
 
 abbrev decreases-loop : tie.decreases-loop
 decreases-loop rows count set x left₀ i₀ left i = count - i
@@ -30,22 +30,22 @@ loop-holds : tie.Need-loop-init invariant-loop decreases-loop
 loop-holds c = (omega arith, rw sub-zero)
 
 loop-again : tie.Need-loop-preserved invariant-loop decreases-loop
-unfolding narrowWritten
+unfolding narrow_written
 loop-again c =
     let l = (at c).loop in
     let a = (start (at c)).args in
     let h : l.i < a.count = omega arith in (
       omega arith,
-      ap (narrowWritten a.set (objectsOf (a.count - (l.i + 1)) (drop ((l.i + 1) * 2) a.rows.now))) c.cut_by.ensures
-          ∙ ap (λ os. narrowWritten a.set os l.left) (sym (pairs-at object a.rows.now a.count l.i h)) ∙ l.inv.1,
+      ap (narrow_written a.set (objects_of (a.count - (l.i + 1)) (drop ((l.i + 1) * 2) a.rows.now))) c.cut_by.ensures
+          ∙ ap (λ os. narrow_written a.set os l.left) (sym (pairs-at object a.rows.now a.count l.i h)) ∙ l.inv.1,
     )
 
 returns : tie.Need-returns invariant-loop decreases-loop
-unfolding narrowWritten
+unfolding narrow_written
 returns c =
     let l = c.before.loop in
     let a = (start c.before).args in
-    ap (λ os. narrowWritten a.set os l.left) (sym (pairs_end object (drop (l.i * 2) a.rows.now) a.count l.i (omega arith)))
+    ap (λ os. narrow_written a.set os l.left) (sym (pairs_end object (drop (l.i * 2) a.rows.now) a.count l.i (omega arith)))
     ∙ l.invariant.1
 
 pub narrow-by-spec : {M : Type 1} → statement M

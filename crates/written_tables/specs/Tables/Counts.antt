@@ -7,16 +7,16 @@ use Rattle.std.proofs.Common.{arith, length-append}
 use borrow.Author.Tests.{ltb-true, ltb-false, lt-ltb, le-leb}
 use Rattle.theory.specs.Lists.{All}
 use Rattle.theory.specs.Lists.Laws.{all_nil, all_cons, all_snoc}
-use Rattle.session.specs.Limits.{mostAttributes, mostObjects}
-use Rattle.table_bytes.specs.Bytes.{isDigit}
+use Rattle.session.specs.Limits.{most_attributes, most_objects}
+use Rattle.table_bytes.specs.Bytes.{is_digit}
 use Rattle.line_bytes.specs.Everywhere.{everywhere}
 use Rattle.line_bytes.specs.Everywhere.Laws.{everywhere-cons}
 use Rattle.table_lines.specs.Lines.{NoEnd}
-use Rattle.table_counts.specs.Counts.{decimalFrom, isCount, countOf}
+use Rattle.table_counts.specs.Counts.{decimal_from, is_count, count_of}
 use Rattle.table_kinds.specs.declared.Kind.TheVariants.{Objects, Attributes}
-use Rattle.line_tests.specs.Tests.{countFault}
+use Rattle.line_tests.specs.Tests.{count_fault}
 use Rattle.line_faults.specs.Faults.{fault}
-use Rattle.text.specs.Text.{digits, numberText}
+use Rattle.text.specs.Text.{digits, number_text}
 
 -- ---- laws of bytes and of digits
 
@@ -27,8 +27,8 @@ all-everywhere f [] h = refl
 all-everywhere f (b ∷ bs) h = rw (everywhere-cons f b bs, h b (Memᴰ.head refl)) (all-everywhere f bs λ c m. h c (Memᴰ.tail m))
 
 -- one digit more behind others
-decimal-last : (m : ℕ) (bs : List ℕ) (b : ℕ) → decimalFrom m (bs ++ (b ∷ [])) ≡ decimalFrom m bs * 10 + (b - 48)
-unfolding decimalFrom
+decimal-last : (m : ℕ) (bs : List ℕ) (b : ℕ) → decimal_from m (bs ++ (b ∷ [])) ≡ decimal_from m bs * 10 + (b - 48)
+unfolding decimal_from
 decimal-last m [] b = refl
 decimal-last m (a ∷ bs) b = decimal-last (m * 10 + (a - 48)) bs b
 
@@ -43,11 +43,11 @@ digits-cases P k n f g = go (ltb n 10) refl
     go false e = g (ltb-false _ _ e)
 
 -- the digits of a number below 10 ^ k make that number
-digits_number : (k n : ℕ) → n < 10 ^ k → decimalFrom 0 (digits k n) ≡ n
-unfolding decimalFrom digits
+digits_number : (k n : ℕ) → n < 10 ^ k → decimal_from 0 (digits k n) ≡ n
+unfolding decimal_from digits
 digits_number zero n h = omega arith
 digits_number (suc k) n h =
-    digits-cases (λ bs. decimalFrom 0 bs ≡ n) k n (λ l. omega arith)
+    digits-cases (λ bs. decimal_from 0 bs ≡ n) k n (λ l. omega arith)
     (λ l. omega (arith, decimal-last 0 (digits k (n / 10)) (48 + n % 10), digits_number k (n / 10) (omega arith)))
 
 -- a number below 10 ^ suc j has at most suc j digits
@@ -74,30 +74,30 @@ digits-bytes (suc k) n =
 
 -- ---- the line of a count
 
-pub count-no-end : (n : ℕ) → All NoEnd (numberText n)
+pub count-no-end : (n : ℕ) → All NoEnd (number_text n)
 count-no-end n b m = let t = digits-bytes 20 n b m in omega arith
 
 module _ (n : ℕ) (h : n < 10000) where
-  pub count-line : isCount (numberText n) ≡ true
-  unfolding isCount
+  pub count-line : is_count (number_text n) ≡ true
+  unfolding is_count
   count-line =
-      let each : All (λ b. isDigit b ≡ true) (numberText n) = λ b m.
+      let each : All (λ b. is_digit b ≡ true) (number_text n) = λ b m.
       let t = digits-bytes 20 n b m in rw (le-leb 48 b t.0) (le-leb b 57 t.1) in
-      rw (lt-ltb 0 (length (numberText n)) (digits-some 19 n), le-leb (length (numberText n)) 4 (digits-few 20 3 n h))
-      (all-everywhere isDigit (numberText n) each)
+      rw (lt-ltb 0 (length (number_text n)) (digits-some 19 n), le-leb (length (number_text n)) 4 (digits-few 20 3 n h))
+      (all-everywhere is_digit (number_text n) each)
 
-  pub count-read : countOf (numberText n) ≡ n
-  unfolding countOf
-  count-read = rw (count-line, countOf) (digits_number 20 n (omega arith))
+  pub count-read : count_of (number_text n) ≡ n
+  unfolding count_of
+  count-read = rw (count-line, count_of) (digits_number 20 n (omega arith))
 
   -- a count in range has no fault
-  count-fault : (least most : ℕ) → least ≤ n → n ≤ most → countFault least most (numberText n) ≡ 0
-  count-fault least most l k = rw (count-line, countFault, count-read, le-leb least n l, le-leb n most k)
+  count-fault : (least most : ℕ) → least ≤ n → n ≤ most → count_fault least most (number_text n) ≡ 0
+  count-fault least most l k = rw (count-line, count_fault, count-read, le-leb least n l, le-leb n most k)
 
-pub objects-line : (used : ℕ) → used ≤ mostObjects → fault Objects (numberText used) ≡ 0
+pub objects-line : (used : ℕ) → used ≤ most_objects → fault Objects (number_text used) ≡ 0
 unfolding fault
-objects-line used h = count-fault used (omega arith) 0 mostObjects (omega arith) h
+objects-line used h = count-fault used (omega arith) 0 most_objects (omega arith) h
 
-pub attributes-line : (n : ℕ) → 0 < n → n ≤ mostAttributes → fault Attributes (numberText n) ≡ 0
+pub attributes-line : (n : ℕ) → 0 < n → n ≤ most_attributes → fault Attributes (number_text n) ≡ 0
 unfolding fault
-attributes-line n some h = count-fault n (omega arith) 1 mostAttributes some h
+attributes-line n some h = count-fault n (omega arith) 1 most_attributes some h

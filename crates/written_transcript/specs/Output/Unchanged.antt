@@ -3,10 +3,10 @@
 -- as having and lacking just what is written, and any other file is refused alike.
 use Rattle.std.specs.Prelude.{◌≡◌, List, ℕ}
 use Rattle.machine.specs.Checks.{Lent}
-use Rattle.transcript.specs.Output.{outputWith, output}
-use Rattle.written_transcript.specs.Output.{writtenOutputWith, writtenOutput}
+use Rattle.transcript.specs.Output.{output_with, output}
+use Rattle.written_transcript.specs.Output.{written_output_with, written_output}
 pub mod Theorem
 
 pub record Unchanged : Type 0 where
-  pub with-places : (lent : Lent) (file : List ℕ) → outputWith lent file ≡ writtenOutputWith lent file
-  pub output : (file : List ℕ) → output file ≡ writtenOutput file
+  pub with_places : (lent : Lent) (file : List ℕ) → output_with lent file ≡ written_output_with lent file
+  pub output : (file : List ℕ) → output file ≡ written_output file

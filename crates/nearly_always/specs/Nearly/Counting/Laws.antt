@@ -6,7 +6,7 @@ use Rattle.std.proofs.Common.{sym, ap, ◌∙◌, inl, inr, arith, div-one, mod-
 use Rattle.std.proofs.Math.Nat.{pow-zero}
 use Rattle.std.proofs.lemmas.List.{get_or-replicate}
 use Rattle.std.specs.Int.Bits.{bit_or}
-use Rattle.session.specs.Limits.{mostAttributes, mostObjects}
+use Rattle.session.specs.Limits.{most_attributes, most_objects}
 use Rattle.attribute_set.specs.Sets.{digit, inside}
 use Rattle.attribute_set.specs.Sets.Laws.{lt-or-le}
 use Rattle.attribute_set.specs.Lectic.{raise}
@@ -14,9 +14,9 @@ use Rattle.attribute_set.specs.Lectic.Laws.{raise-lt}
 use Rattle.context.specs.Objects.{Object, object}
 use Rattle.attribute_set.specs.Passing.{passing}
 use Rattle.attribute_set.specs.Passing.Laws.{passing-same}
-use Rattle.nearly_always.specs.Nearly.{exceeds, mostPercent}
+use Rattle.nearly_always.specs.Nearly.{exceeds, most_percent}
 use Rattle.nearly_always.specs.Nearly.Laws.{support-has, support-lacks, support-none, support-with, support-without, support-most}
-use Rattle.nearly_always.specs.Nearly.Counting.{Zero, Small, Adds, Adding, Counted, CountedBut, CountsRow, exceedsBy, joinedBy}
+use Rattle.nearly_always.specs.Nearly.Counting.{Zero, Small, Adds, Adding, Counted, CountedBut, CountsRow, exceeds_by, joined_by}
 
 -- ---- the attributes of a row
 
@@ -60,14 +60,14 @@ zero-counts n k l = record { at = λ j h. get_or-replicate k j 0 0 (omega (arith
 
 pub counted_start : (n : ℕ) (os : List Object) (premise : ℕ) (counts : List ℕ) → Zero n counts → CountedBut n os os premise 0 counts
 counted_start n os premise counts z = record {
-  with-premise = omega arith;
-  with-attribute = λ j h. omega (arith, z.at j h);
+  with_premise = omega arith;
+  one_attribute = λ j h. omega (arith, z.at j h);
 }
 
 pub counted-end : (n : ℕ) (os : List Object) (premise total : ℕ) (counts : List ℕ) → CountedBut n [] os premise total counts → Counted n os premise total counts
 counted-end n os premise total counts c = record {
-  with-premise = omega (arith, c.with-premise, support-none premise);
-  with-attribute = λ j h. omega (arith, c.with-attribute j h, support-none (bit_or premise (2 ^ j)));
+  with_premise = omega (arith, c.with_premise, support-none premise);
+  one_attribute = λ j h. omega (arith, c.one_attribute j h, support-none (bit_or premise (2 ^ j)));
 }
 
 module _ (n premise yes total : ℕ) (before : List ℕ) where
@@ -76,8 +76,8 @@ module _ (n premise yes total : ℕ) (before : List ℕ) where
   counts-has after e adds = record {
     same_length = adds.same_length;
     counted = λ rest os no c. record {
-      with-premise = omega (arith, c.with-premise, support-has premise (object yes no) rest e);
-      with-attribute = λ j h. omega (arith, c.with-attribute j h, adds.at j h, support-with premise j (object yes no) rest e);
+      with_premise = omega (arith, c.with_premise, support-has premise (object yes no) rest e);
+      one_attribute = λ j h. omega (arith, c.one_attribute j h, adds.at j h, support-with premise j (object yes no) rest e);
     };
   }
 
@@ -86,49 +86,49 @@ module _ (n premise yes total : ℕ) (before : List ℕ) where
   counts-lacks e = record {
     same_length = refl;
     counted = λ rest os no c. record {
-      with-premise = omega (arith, c.with-premise, support-lacks premise (object yes no) rest e);
-      with-attribute = λ j h. omega (arith, c.with-attribute j h, support-without premise j (object yes no) rest e);
+      with_premise = omega (arith, c.with_premise, support-lacks premise (object yes no) rest e);
+      one_attribute = λ j h. omega (arith, c.one_attribute j h, support-without premise j (object yes no) rest e);
     };
   }
 
 pub counted-small : (n : ℕ) (rest os : List Object) (premise total : ℕ) (counts : List ℕ) → CountedBut n rest os premise total counts
-    → length os ≤ mostObjects → Small n counts × (total ≤ mostObjects)
+    → length os ≤ most_objects → Small n counts × (total ≤ most_objects)
 counted-small n rest os premise total counts c fits = (
-  record { at = λ j h. omega (arith, c.with-attribute j h, support-most (bit_or premise (2 ^ j)) os, fits) },
-  omega (arith, c.with-premise, support-most premise os, fits),
+  record { at = λ j h. omega (arith, c.one_attribute j h, support-most (bit_or premise (2 ^ j)) os, fits) },
+  omega (arith, c.with_premise, support-most premise os, fits),
 )
 
-pub all_small : (n : ℕ) (os : List Object) (premise total : ℕ) (counts : List ℕ) → Counted n os premise total counts → length os ≤ mostObjects
-    → Small n counts × (total ≤ mostObjects)
+pub all_small : (n : ℕ) (os : List Object) (premise total : ℕ) (counts : List ℕ) → Counted n os premise total counts → length os ≤ most_objects
+    → Small n counts × (total ≤ most_objects)
 all_small n os premise total counts c fits = (
-  record { at = λ j h. omega (arith, c.with-attribute j h, support-most (bit_or premise (2 ^ j)) os, fits) },
-  omega (arith, c.with-premise, support-most premise os, fits),
+  record { at = λ j h. omega (arith, c.one_attribute j h, support-most (bit_or premise (2 ^ j)) os, fits) },
+  omega (arith, c.with_premise, support-most premise os, fits),
 )
 
 -- ---- counts that exceed
 
 module _ (percent total counted j set : ℕ) where
   -- the attribute is raised above those below it
-  pub joined-raised : percent * total < 100 * counted → j < mostAttributes → set < 2 ^ j → raise set j % 2 ^ 64 ≡ joinedBy percent total counted j set
+  pub joined-raised : percent * total < 100 * counted → j < most_attributes → set < 2 ^ j → raise set j % 2 ^ 64 ≡ joined_by percent total counted j set
   joined-raised h l s =
       mod-eq_of_lt (lt_of_lt_of_le (raise-lt set j) (pow_mono l)) ∙ ap (λ (k : ℕ). 2 ^ j + k) (mod-eq_of_lt s)
-      ∙ sym (rw (joinedBy, lt-ltb (percent * total) (100 * counted) h))
+      ∙ sym (rw (joined_by, lt-ltb (percent * total) (100 * counted) h))
 
-  pub joined-kept : 100 * counted ≤ percent * total → set ≡ joinedBy percent total counted j set
-  joined-kept h = rw (joinedBy, le-ltb (percent * total) (100 * counted) h)
+  pub joined-kept : 100 * counted ≤ percent * total → set ≡ joined_by percent total counted j set
+  joined-kept h = rw (joined_by, le-ltb (percent * total) (100 * counted) h)
 
   -- the products fit a word
-  pub product-fits : percent ≤ mostPercent → total ≤ mostObjects → percent * total < 2 ^ 64
+  pub product-fits : percent ≤ most_percent → total ≤ most_objects → percent * total < 2 ^ 64
   product-fits p t = lt_of_le_of_lt (mul-le-mul p t) (lit< tt)
 
 pub passing-joined : (percent total : ℕ) (counts : List ℕ) (j : ℕ)
-    → joinedBy percent total (get_or counts j 0) j (passing (exceedsBy percent total counts) j) ≡ passing (exceedsBy percent total counts) (suc j)
+    → joined_by percent total (get_or counts j 0) j (passing (exceeds_by percent total counts) j) ≡ passing (exceeds_by percent total counts) (suc j)
 unfolding passing
 passing-joined percent total counts j = refl
 
 pub exceeds-counted : (n percent total : ℕ) (os : List Object) (premise : ℕ) (counts : List ℕ) → Counted n os premise total counts
-    → passing (exceedsBy percent total counts) n ≡ passing (exceeds percent os premise) n
+    → passing (exceeds_by percent total counts) n ≡ passing (exceeds percent os premise) n
 unfolding exceeds
 exceeds-counted n percent total os premise counts c =
-    passing-same (exceedsBy percent total counts) (exceeds percent os premise) n
-    (λ j h. rw (c.with-premise, c.with-attribute j h))
+    passing-same (exceeds_by percent total counts) (exceeds percent os premise) n
+    (λ j h. rw (c.with_premise, c.one_attribute j h))

@@ -14,26 +14,26 @@ use Rattle.table_lines.specs.Lines.Laws.{skipped-suc}
 use Rattle.table_lines.specs.Pieces.{lines_of}
 use Rattle.table_lines.specs.Pieces.Laws.{start-there, start-end, start-bytes}
 use Rattle.table_kinds.specs.declared.Kind.TheVariants.{Name}
-use Rattle.line_tests.specs.Tests.{mostNameBytes}
+use Rattle.line_tests.specs.Tests.{most_name_bytes}
 use Rattle.line_tests.specs.Tests.Laws.{unless-fine}
 use Rattle.line_faults.specs.Faults.{fault}
 use Rattle.line_walk.specs.declared.Walk.{Walk}
 use Rattle.line_walk.specs.declared.Walk.TheVariants.{Failed, At}
-use Rattle.line_walk.specs.Walk.{lineFault, walk}
+use Rattle.line_walk.specs.Walk.{line_fault, walk}
 use Rattle.line_walk.specs.Walk.Laws.{fault-there, walk-passed, walk-failed}
 use Rattle.table_walk.specs.Walk.Passed.{line-there}
-use Rattle.table_writing.specs.Writing.{namesWalk, isFailed, NamesPass}
+use Rattle.table_writing.specs.Writing.{names_walk, is_failed, NamesPass}
 use Rattle.table_writing.specs.Writing.Names.{GoodName, BadName, FirstBad}
 
 -- a test of the length that passes, or fails
-name-length : (n : ℕ) → (ltb 0 n && leb n mostNameBytes) ≡ true → (0 < n) × (n ≤ mostNameBytes)
-name-length n e = let t = (and-eq-true_iff (ltb 0 n) (leb n mostNameBytes)).0 e in (ltb-true _ _ t.0, leb-true _ _ t.1)
+name-length : (n : ℕ) → (ltb 0 n && leb n most_name_bytes) ≡ true → (0 < n) × (n ≤ most_name_bytes)
+name-length n e = let t = (and-eq-true_iff (ltb 0 n) (leb n most_name_bytes)).0 e in (ltb-true _ _ t.0, leb-true _ _ t.1)
 
 module _ (names : List ℕ) (k : ℕ) where
   abbrev here : ℕ
   here = skipped k names 0
 
-  good-line : k < length (lines_of names) → lineFault Name names here ≡ 0 → GoodName names k
+  good-line : k < length (lines_of names) → line_fault Name names here ≡ 0 → GoodName names k
   unfolding fault
   good-line h e =
       let f = sym (fault-there names Name here (start-there names k h)) ∙ e in
@@ -41,9 +41,9 @@ module _ (names : List ℕ) (k : ℕ) where
       let s = ap length (start-bytes names k h) in
       (h, omega (arith, s), omega (arith, s))
 
-  bad-line : k < length (lines_of names) → (lineFault Name names here ≡ 0 → ⊥) → BadName names k
+  bad-line : k < length (lines_of names) → (line_fault Name names here ≡ 0 → ⊥) → BadName names k
   unfolding fault
-  bad-line h e = go (lt-or-le 0 m) (lt-or-le mostNameBytes m)
+  bad-line h e = go (lt-or-le 0 m) (lt-or-le most_name_bytes m)
     where
       m : ℕ
       m = length (bytes_at names here)
@@ -51,11 +51,11 @@ module _ (names : List ℕ) (k : ℕ) where
       s : m ≡ length (get_or (lines_of names) k [])
       s = ap length (start-bytes names k h)
 
-      go : (0 < m) ⊎ (m ≤ 0) → (mostNameBytes < m) ⊎ (m ≤ mostNameBytes) → BadName names k
+      go : (0 < m) ⊎ (m ≤ 0) → (most_name_bytes < m) ⊎ (m ≤ most_name_bytes) → BadName names k
       go (inr none) b = inr (inl (omega (arith, s)))
       go (inl some) (inl long) = inr (inr (omega (arith, s)))
       go (inl some) (inr few) =
-          absurd (e (fault-there names Name here (start-there names k h) ∙ rw (lt-ltb 0 m some, le-leb m mostNameBytes few)))
+          absurd (e (fault-there names Name here (start-there names k h) ∙ rw (lt-ltb 0 m some, le-leb m most_name_bytes few)))
 
 -- ---- the walk over the names from line j on, where those before it are names
 
@@ -76,7 +76,7 @@ one_more names j b g i h = go (lt-or-le i j)
         subst (GoodName names) e g
 
 -- a line that is no name is refused, where it is missing and where it is there
-line-bad : (names : List ℕ) (count j : ℕ) → j < count → Before names j → (lineFault Name names (skipped j names 0) ≡ 0 → ⊥)
+line-bad : (names : List ℕ) (count j : ℕ) → j < count → Before names j → (line_fault Name names (skipped j names 0) ≡ 0 → ⊥)
     → FirstBad names count j (skipped j names 0)
 line-bad names count j h b e = record {
   needed = h;
@@ -90,7 +90,7 @@ line-bad names count j h b e = record {
     go (inl l) = bad-line names j l e
     go (inr l) = inl l
 
-line-good : (names : List ℕ) (j : ℕ) → lineFault Name names (skipped j names 0) ≡ 0 → GoodName names j
+line-good : (names : List ℕ) (j : ℕ) → line_fault Name names (skipped j names 0) ≡ 0 → GoodName names j
 line-good names j e = go (lt-or-le j (length (lines_of names)))
   where
     go : (j < length (lines_of names)) ⊎ (length (lines_of names) ≤ j) → GoodName names j
@@ -104,35 +104,35 @@ walk-found names zero j count e b =
     let z : j ≡ count = omega arith in
     subst (Before names) z b
 walk-found names (suc left) j count e b =
-    go (eqb (lineFault Name names here') 0) refl (λ g. walk-found names left (suc j) count (omega arith) (one_more names j b g))
+    go (eqb (line_fault Name names here') 0) refl (λ g. walk-found names left (suc j) count (omega arith) (one_more names j b g))
   where
     here' : ℕ
     here' = skipped j names 0
 
-    go : (t : Bool) → eqb (lineFault Name names here') 0 ≡ t
+    go : (t : Bool) → eqb (line_fault Name names here') 0 ≡ t
         → (GoodName names j → Found names count (walk (replicate left Name) names (skipped (suc j) names 0)))
         → Found names count (walk (replicate (suc left) Name) names here')
     go true t on =
-        let f = eqb-true (lineFault Name names here') 0 t in
+        let f = eqb-true (line_fault Name names here') 0 t in
         subst (Found names count)
         (ap (walk (replicate left Name) names) (skipped-suc j names 0) ∙ sym (walk-passed names Name here' (replicate left Name) f))
         (on (line-good names j f))
     go false t on =
-        let f = eqb-false (lineFault Name names here') 0 t in
+        let f = eqb-false (line_fault Name names here') 0 t in
         subst (Found names count) (sym (walk-failed names Name here' (replicate left Name) f))
         (j, line-bad names count j (omega arith) b f)
 
 module _ (n used : ℕ) (names : List ℕ) where
-  names-found : Found names (used + n) (namesWalk n used names)
+  names-found : Found names (used + n) (names_walk n used names)
   unfolding skipped
   names-found = walk-found names (used + n) 0 (used + n) (omega arith) (λ i h. absurd (omega arith))
 
   pub names-good : NamesPass n used names → (k : ℕ) → k < used + n → GoodName names k
-  names-good e = go (namesWalk n used names) e names-found
+  names-good e = go (names_walk n used names) e names-found
     where
-      go : (w : Walk) → isFailed w ≡ false → Found names (used + n) w → (k : ℕ) → k < used + n → GoodName names k
+      go : (w : Walk) → is_failed w ≡ false → Found names (used + n) w → (k : ℕ) → k < used + n → GoodName names k
       go (At at) p f = f
       go (Failed r) p f = absurd (true≢false p)
 
-  pub first-bad : (r : Refusal) → namesWalk n used names ≡ Failed r → (k : ℕ) × FirstBad names (used + n) k r.place
+  pub first-bad : (r : Refusal) → names_walk n used names ≡ Failed r → (k : ℕ) × FirstBad names (used + n) k r.place
   first-bad r e = subst (Found names (used + n)) e names-found

@@ -7,17 +7,17 @@ use Rattle.theory.specs.Lists.{All}
 use Rattle.theory.specs.Lists.Laws.{all_nil, all_cons, all_append}
 use Rattle.session.specs.declared.Refusal.{Refusal}
 use Rattle.session.specs.Refusals.{refusal}
-use Rattle.machine.specs.Checks.{Check, firstFailing}
+use Rattle.machine.specs.Checks.{Check, first_failing}
 use Rattle.demands.specs.Facts.Refused.{failing-check}
 use Rattle.line_walk.specs.declared.Walk.{Walk}
 use Rattle.line_walk.specs.declared.Walk.TheVariants.{Failed, At}
-use Rattle.table_walk.specs.Walk.{placeOf}
-use Rattle.row_checks.specs.Rows.{rowChecks}
+use Rattle.table_walk.specs.Walk.{place_of}
+use Rattle.row_checks.specs.Rows.{row_checks}
 use Rattle.row_checks.specs.Rows.Places.{RightRow}
 use Rattle.row_checks.specs.Rows.Laws.{right-rows}
 use Rattle.table_text.specs.Table.{text_of}
 use Rattle.table_writing.specs.declared.Written.TheVariants.{Refused}
-use Rattle.table_writing.specs.Writing.{namesWalk, isFailed, writeChecks, written_by, writing}
+use Rattle.table_writing.specs.Writing.{names_walk, is_failed, write_checks, written_by, writing}
 use Rattle.table_writing.specs.Writing.Names.{FirstBad}
 use Rattle.table_writing.specs.Writing.Names.Laws.{first-bad}
 use Rattle.table_writing.specs.Writing.Places.{RightPlace}
@@ -35,22 +35,22 @@ module _ (n used : ℕ) (words names : List ℕ) where
     other = λ a b. p.other a;
   }
 
-  name-place : isFailed (namesWalk n used names) ≡ true → RightPlace n used words names (refusal 26 (placeOf (namesWalk n used names)))
+  name-place : is_failed (names_walk n used names) ≡ true → RightPlace n used words names (refusal 26 (place_of (names_walk n used names)))
   name-place f = record {
     number = inr (inl refl);
     five = λ e. absurd (omega arith);
-    name = λ e. go (namesWalk n used names) refl f;
+    name = λ e. go (names_walk n used names) refl f;
     other = λ a b. absurd (b refl);
   }
     where
-      go : (w : Walk) → namesWalk n used names ≡ w → isFailed w ≡ true → (k : ℕ) × FirstBad names (used + n) k (placeOf w)
+      go : (w : Walk) → names_walk n used names ≡ w → is_failed w ≡ true → (k : ℕ) × FirstBad names (used + n) k (place_of w)
       go (At at) e g = absurd (true≢false (sym g))
       go (Failed r) e g = first-bad n used names r e
 
-  places : (room : ℕ) → All Right (writeChecks n used words names room)
-  unfolding writeChecks
+  places : (room : ℕ) → All Right (write_checks n used words names room)
+  unfolding write_checks
   places room =
-      all_append (rowChecks n used words) _ (λ c m f. row-place _ (right-rows n used words c m f))
+      all_append (row_checks n used words) _ (λ c m f. row-place _ (right-rows n used words c m f))
       (all_cons name-place (all_cons (λ f. record {
         number = inr (inr refl);
         five = λ e. absurd (omega arith);
@@ -67,6 +67,6 @@ refused-by (some x) size r e =
 pub right-place : (n used : ℕ) (words names : List ℕ) (room : ℕ) (r : Refusal) → writing n used words names room ≡ Refused r
     → RightPlace n used words names r
 right-place n used words names room r e =
-    let o = firstFailing (writeChecks n used words names room) in
-    failing-check (RightPlace n used words names) (writeChecks n used words names room) (places n used words names room) r
+    let o = first_failing (write_checks n used words names room) in
+    failing-check (RightPlace n used words names) (write_checks n used words names room) (places n used words names room) r
     (refused-by o (length (text_of n used words names)) r e)

@@ -3,7 +3,7 @@
 use Rattle.std.specs.Prelude.{◌≡◌, refl, Bool, true, false, [], ◌∷◌, ◌++◌, ℕ, zero, suc, ◌+◌, ◌/◌, ◌%◌, ◌^◌, ◌≤◌, ◌<◌, ltb, length}
 use Rattle.std.proofs.Common.{sym, ap, ◌∙◌, zero-lt-suc, div-one, mul_comm, pow-suc, arith, length-append, lt-ltb, le-ltb}
 use Rattle.std.proofs.Math.Nat.{one-le-pow, div-div-eq-div-mul}
-use Rattle.text.specs.Text.{digits, numberText}
+use Rattle.text.specs.Text.{digits, number_text}
 use Rattle.text.specs.Text.Digits.{low, lead, Leads}
 
 positive : (k : ℕ) → 1 ≤ 10 ^ k
@@ -67,5 +67,5 @@ digits-most (suc k) n = go (ltb n 10) (digits-most k (n / 10))
     go true h = omega arith
     go false h = omega (arith, length-append (digits k (n / 10)) ((48 + n % 10) ∷ []))
 
-pub number_short : (n : ℕ) → length (numberText n) ≤ 20
+pub number_short : (n : ℕ) → length (number_text n) ≤ 20
 number_short n = digits-most 20 n

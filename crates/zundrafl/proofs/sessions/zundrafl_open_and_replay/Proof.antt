@@ -1,7 +1,7 @@
 -- The record is read, the call is made, and record and answer are stored, the record where it changed.
 use contract.Running.{tables_of}
 use Rattle.walks.specs.Instance.{id⊢, fact_mono, tables, triple_of, entered, cited}
-use Rattle.call_logs.specs.Replay.{logWords}
+use Rattle.call_logs.specs.Replay.{log_words}
 use Rattle.saved_interview.specs.TakingUp.Theorem.{outcome-kept}
 use Rattle.saved_interview.specs.contracts.open_and_replay as core
 use Rattle.saved_interview.proofs.open_and_replay.Symbol as core-def
@@ -23,4 +23,4 @@ zundrafl-open-and-replay-spec 𝓤 𝓛 𝓜 𝓡 =
     (cited 𝓤 𝓛.H (triple_of 𝓛 core.signature (core.spec 𝓛 𝓜.mem 𝓡.run)) 𝓜 𝓡 code.env core-def.name core-def.routine
     code.calls-saved-interview::open-and-replay (core-thm.met 𝓤 𝓛 𝓜 𝓡))
     (λ κs a. tt) (λ κs a. id⊢ 𝓤 _) (λ κs a g r ws. fact_mono 𝓤 _ _ (outcome-kept a.1.0 a.1.1.0 a.1.1.1.1.1.0.now a.1.1.1.1.1.1.0.now a.0.now
-    (logWords a.1.1.1.0.now a.1.1.1.1.0.now a.1.1.1.1.1.1.1.0.now) r.answer r.session (logWords ws.1.1.1.0 ws.1.1.1.1.0 ws.1.1.1.1.1.1.1.0) r.changed)))
+    (log_words a.1.1.1.0.now a.1.1.1.1.0.now a.1.1.1.1.1.1.1.0.now) r.answer r.session (log_words ws.1.1.1.0 ws.1.1.1.1.0 ws.1.1.1.1.1.1.1.0) r.changed)))

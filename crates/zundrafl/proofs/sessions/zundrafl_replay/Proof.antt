@@ -1,7 +1,7 @@
 -- The record is read, the coded call is made, and record and answer are stored, the record where it changed.
 use contract.Running.{tables_of}
 use Rattle.walks.specs.Instance.{id⊢, fact_mono, tables, triple_of, entered, cited}
-use Rattle.call_logs.specs.Replay.{logWords}
+use Rattle.call_logs.specs.Replay.{log_words}
 use Rattle.call_logs.specs.Replay.Laws.{replayed-kept}
 use Rattle.coded_logs.specs.contracts.replay_coded as core
 use Rattle.coded_logs.proofs.replay_coded.Symbol as core-def
@@ -23,4 +23,4 @@ zundrafl-replay-spec 𝓤 𝓛 𝓜 𝓡 =
     (cited 𝓤 𝓛.H (triple_of 𝓛 core.signature (core.spec 𝓛 𝓜.mem 𝓡.run)) 𝓜 𝓡 code.env core-def.name core-def.routine
     code.calls-coded-logs::replay-coded (core-thm.met 𝓤 𝓛 𝓜 𝓡))
     (λ κs a. tt) (λ κs a. id⊢ 𝓤 _) (λ κs a g r ws. fact_mono 𝓤 _ _ (replayed-kept a.1.1.1.0.now a.1.1.1.1.0.now a.0.now
-    (logWords a.1.0.now a.1.1.0.now a.1.1.1.1.1.0.now) r.session (logWords ws.1.0 ws.1.1.0 ws.1.1.1.1.1.0) r.answer r.changed)))
+    (log_words a.1.0.now a.1.1.0.now a.1.1.1.1.1.0.now) r.session (log_words ws.1.0 ws.1.1.0 ws.1.1.1.1.1.0) r.answer r.changed)))
