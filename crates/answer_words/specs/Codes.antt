@@ -2,7 +2,7 @@
 -- refusal numbers.
 use Rattle.std.specs.Prelude.{Bool, true, false, ℕ, eqb}
 use denote.Triple.Both.{Both}
-use Rattle.std.specs.Borrow.{Bor}
+use Rattle.std.specs.Borrow.{MutBor}
 use Rattle.session.specs.Refusals.{refusal}
 use Rattle.implication.specs.Closure.{implication}
 use Rattle.machine.specs.Machine.{Answer, finished, moved, asked, taken, followed, refuted, unrefuted, refuting, refused, Opening, opened, rejected}
@@ -62,4 +62,4 @@ is_opened (rejected r) = false
 
 -- a lent answer, as a call finds it and as it leaves it
 abbrev pub LentAnswer : Type 0
-LentAnswer = Both (Bor Coded) (Bor Coded)
+LentAnswer = Both (MutBor Coded) (MutBor Coded)

@@ -1,11 +1,12 @@
 // Answers in three words, a code and two values.
+#![tactic(auto)]
 ghost use Rattle.std.specs.Prelude.{◌≡◌};
 ghost use Rattle.machine.specs.Machine.{refused};
 ghost use Rattle.answer_words.specs.Codes.{coded, code_of};
 
 // An answer in three words; a refusal has its own number as its code, and its place as the first value.
 #[repr(C)]
-#[derive(Drop)]
+#[derive(Clone, Copy)]
 pub struct Answer {
     pub code: u64,
     pub first: u64,

@@ -1,15 +1,17 @@
 // Logs of calls: each call made through the call of its kind, its answer in three words written down.
+#![tactic(auto)]
+ghost use Rattle.context.specs.Parts.{mutable, shared};
 ghost use Rattle.std.specs.Prelude.{◌≡◌, ◌+◌, ◌*◌, ◌≤◌, length};
 ghost use Rattle.call_logs.specs.Replay.{stored, Replays};
 
-#[derive(Drop)]
+#[derive(Clone, Copy)]
 pub enum Log {
     Replayed,
     // The answers have no room for all calls.
     Short,
 }
 
-#[derive(Drop)]
+#[derive(Clone, Copy)]
 pub struct Replayed {
     pub log: Log,
     pub session: session::Session,
@@ -35,7 +37,7 @@ pub fn replay(
     calls: &[u64],
     answers: &mut [u64],
 ) -> Replayed
-    ensures { Replays session rows list background calls answers result.log result.session }
+    ensures { Replays session (mutable rows) (mutable list) (shared background) (shared calls) (mutable answers) result.log result.session }
 {
     let count = calls.len() / 4;
     if answers.len() / 3 < count {

@@ -1,4 +1,6 @@
 // The filing of an offered row behind checks 1 to 7, by value: its own checks, the row written, the record given back.
+#![tactic(auto)]
+ghost use Rattle.context.specs.Parts.{mutable, shared};
 ghost use Rattle.context.specs.Objects.{object};
 ghost use Rattle.checked_filing.specs.Checked.{FilesChecked};
 
@@ -11,7 +13,7 @@ pub fn file_checked(
     yes: u64,
     no: u64,
 ) -> session_replies::Replied
-    ensures { FilesChecked (object yes no) session rows list background result }
+    ensures { FilesChecked (object yes no) session (mutable rows) (shared list) (shared background) result }
 {
     let used = session.rows;
     let rules = session.rules;

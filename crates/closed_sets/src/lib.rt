@@ -1,4 +1,5 @@
 // The next closed set.
+#![tactic(auto)]
 ghost use Rattle.std.specs.Prelude.{◌≡◌, min};
 ghost use Rattle.implication.specs.Closure.{in_force};
 ghost use Rattle.next_set.specs.Next.{next};

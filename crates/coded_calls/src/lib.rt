@@ -1,4 +1,6 @@
 // The step, the replies, the filing and the filling, with answers in three words, a code and two values.
+#![tactic(auto)]
+ghost use Rattle.context.specs.Parts.{mutable, shared};
 ghost use Rattle.context.specs.Objects.{object};
 ghost use Rattle.machine.specs.Machine.{step as stepping, accept as accepting, reject as rejecting, file, fill};
 ghost use Rattle.machine.specs.Calls.{Made, Turned};
@@ -8,7 +10,7 @@ use coded_opening::Turn;
 
 // Finished, moved, or the standing question.
 pub fn step(session: session::Session, rows: &[u64], list: &[u64], background: &[u64]) -> Turn
-    ensures { Turned code_of stepping session rows list background result.answer result.session result.changed }
+    ensures { Turned code_of stepping session (shared rows) (shared list) (shared background) result.answer result.session result.changed }
 {
     let made = session_steps::make_step(session, rows, list, background);
     let answer = made.answer;
@@ -22,7 +24,7 @@ pub fn step(session: session::Session, rows: &[u64], list: &[u64], background: &
 
 // 01's yes: the standing question becomes the next rule of the list.
 pub fn accept(session: session::Session, rows: &[u64], list: &mut [u64], background: &[u64]) -> Turn
-    ensures { Turned code_of accepting session rows list background result.answer result.session result.changed }
+    ensures { Turned code_of accepting session (shared rows) (mutable list) (shared background) result.answer result.session result.changed }
 {
     let made = session_yes::accept(session, rows, list, background);
     let answer = made.answer;
@@ -43,7 +45,7 @@ pub fn reject(
     yes: u64,
     no: u64,
 ) -> Turn
-    ensures { Turned code_of (rejecting (object yes no)) session rows list background result.answer result.session result.changed }
+    ensures { Turned code_of (rejecting (object yes no)) session (mutable rows) (shared list) (shared background) result.answer result.session result.changed }
 {
     let made = session_no::reject(session, rows, list, background, yes, no);
     let answer = made.answer;
@@ -64,7 +66,7 @@ pub fn file_row(
     yes: u64,
     no: u64,
 ) -> Turn
-    ensures { Turned code_of (file (object yes no)) session rows list background result.answer result.session result.changed }
+    ensures { Turned code_of (file (object yes no)) session (mutable rows) (shared list) (shared background) result.answer result.session result.changed }
 {
     let made = session_filing::file_row(session, rows, list, background, yes, no);
     let answer = made.answer;
@@ -86,7 +88,7 @@ pub fn fill_row(
     yes: u64,
     no: u64,
 ) -> answer_words::Answer
-    ensures { Made code_of (fill row (object yes no)) session rows list background result session }
+    ensures { Made code_of (fill row (object yes no)) session (mutable rows) (shared list) (shared background) result session }
 {
     let answer = session_late_marks::fill_row(session, rows, list, background, row, yes, no);
     coded_answers::answer_of_reply(answer)

@@ -1,4 +1,6 @@
 // The replay of a log of calls, with its answer in three words.
+#![tactic(auto)]
+ghost use Rattle.context.specs.Parts.{mutable, shared};
 ghost use Rattle.std.specs.Prelude.{◌≡◌};
 ghost use Rattle.call_logs.specs.Replay.{code_of_log, ReplaysCoded};
 
@@ -21,7 +23,7 @@ pub fn replay_coded(
     calls: &[u64],
     answers: &mut [u64],
 ) -> coded_opening::Turn
-    ensures { ReplaysCoded session rows list background calls answers result.answer result.session result.changed }
+    ensures { ReplaysCoded session (mutable rows) (mutable list) (shared background) (shared calls) (mutable answers) result.answer result.session result.changed }
 {
     let replayed = call_logs::replay(session, rows, list, background, calls, answers);
     let log = replayed.log;

@@ -1,4 +1,6 @@
 // Listing what nearly always comes with a premise, with its answer in three words.
+#![tactic(auto)]
+ghost use Rattle.context.specs.Parts.{shared};
 ghost use Rattle.std.specs.Prelude.{◌≡◌};
 ghost use Rattle.coded_nearly.specs.Listing.{code_of_nearly, ListsCoded};
 
@@ -16,7 +18,7 @@ fn answer_of(listed: Nearly) -> Answer
 
 // The set of attributes, or 1 to 5, 31.
 pub fn list_nearly(n: usize, used: usize, rows: &[u64], premise: u64, percent: u64) -> Answer
-    ensures { ListsCoded n used rows premise percent result }
+    ensures { ListsCoded n used (shared rows) premise percent result }
 {
     let listed = nearly_listing::list_nearly(n, used, rows, premise, percent);
     answer_of(listed)

@@ -1,9 +1,11 @@
 // The opening of a session with its answer in three words, a code and two values, and what every call that may change the record
 // gives back.
+#![tactic(auto)]
+ghost use Rattle.context.specs.Parts.{shared};
 ghost use Rattle.coded_opening.specs.Openings.{OpensCoded};
 
 // The answer to a call, the record after it, and whether it differs from the one before.
-#[derive(Drop)]
+#[derive(Clone, Copy)]
 pub struct Turn {
     pub answer: answer_words::Answer,
     pub session: session::Session,
@@ -19,7 +21,7 @@ pub fn open(
     list: &[u64],
     background: &[u64],
 ) -> Turn
-    ensures { OpensCoded n used session rows list background result.answer result.session result.changed }
+    ensures { OpensCoded n used session (shared rows) (shared list) (shared background) result.answer result.session result.changed }
 {
     let opened = session_opening::open(n, used, rows, list, background);
     match opened {

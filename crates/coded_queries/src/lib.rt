@@ -1,4 +1,6 @@
 // The calls of a session that change nothing, with answers in three words, a code and two values.
+#![tactic(auto)]
+ghost use Rattle.context.specs.Parts.{shared};
 ghost use Rattle.implication.specs.Closure.{implication};
 ghost use Rattle.context.specs.Objects.{object};
 ghost use Rattle.machine.specs.Machine.{follow, refute, test};
@@ -14,7 +16,7 @@ pub fn follows(
     premise: u64,
     conclusion: u64,
 ) -> answer_words::Answer
-    ensures { Made code_of (follow (implication premise conclusion)) session rows list background result session }
+    ensures { Made code_of (follow (implication premise conclusion)) session (shared rows) (shared list) (shared background) result session }
 {
     let answer = session_queries::follows(session, rows, list, background, premise, conclusion);
     coded_answers::answer_of_following(answer)
@@ -29,7 +31,7 @@ pub fn refuted(
     premise: u64,
     conclusion: u64,
 ) -> answer_words::Answer
-    ensures { Made code_of (refute (implication premise conclusion)) session rows list background result session }
+    ensures { Made code_of (refute (implication premise conclusion)) session (shared rows) (shared list) (shared background) result session }
 {
     let answer = session_queries::refuted(session, rows, list, background, premise, conclusion);
     coded_answers::answer_of_refuting(answer)
@@ -44,7 +46,7 @@ pub fn test_row(
     yes: u64,
     no: u64,
 ) -> answer_words::Answer
-    ensures { Made code_of (test (object yes no)) session rows list background result session }
+    ensures { Made code_of (test (object yes no)) session (shared rows) (shared list) (shared background) result session }
 {
     let answer = session_test::test_row(session, rows, list, background, yes, no);
     coded_answers::answer_of_testing(answer)

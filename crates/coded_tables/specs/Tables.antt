@@ -2,7 +2,7 @@
 -- opened is answered like an accepted reply; a refusal has its own number and its offset, and leaves the layout.
 use Rattle.std.specs.Prelude.{◌≡◌, Bool, true, false, List, ℕ, length, eqb}
 use denote.Triple.Both.{Both}
-use Rattle.std.specs.Borrow.{Bor}
+use Rattle.std.specs.Borrow.{Bor, MutBor}
 use Rattle.answer_words.specs.declared.Answer.{Answer as Coded}
 use Rattle.answer_words.specs.Codes.{coded, LentAnswer}
 use Rattle.table_layout.specs.declared.Layout.{Layout}
@@ -31,7 +31,7 @@ pub record OpensTable (opened : Opened) (before : Layout) (x : Coded) (after : L
   pub layout : after ≡ layout_after opened before
 
 -- over a lent layout, with the answer put where the caller says
-abbrev pub OpensTableOn : Opened → Both (Bor Layout) (Bor Layout) → LentAnswer → Type 0
+abbrev pub OpensTableOn : Opened → Both (MutBor Layout) (MutBor Layout) → LentAnswer → Type 0
 OpensTableOn opened layout answer = OpensTable opened layout.entry.now answer.exit.now layout.exit.now
 
 -- the same, and whether the layout changed
@@ -44,7 +44,7 @@ pub record MarksRead (opened : Opened) (file words : List ℕ) (x : Coded) (word
   pub answer : x ≡ code_of_opened opened
   pub written : words' ≡ words_of_rows opened file words
 
-abbrev pub ReadsMarks : Layout → Both (Bor (List ℕ)) (Bor (List ℕ)) → Both (Bor (List ℕ)) (Bor (List ℕ)) → Coded → Type 0
+abbrev pub ReadsMarks : Layout → Both (Bor (List ℕ)) (Bor (List ℕ)) → Both (MutBor (List ℕ)) (MutBor (List ℕ)) → Coded → Type 0
 ReadsMarks layout file rows x =
     MarksRead (reading_as layout (length rows.entry.now) file.entry.now) file.entry.now rows.entry.now x rows.exit.now
 

@@ -1,10 +1,11 @@
 // The table reader with its answers in three words: the layout that the caller keeps goes in, and comes back where it may have changed.
+#![tactic(auto)]
 ghost use Rattle.table_layout.specs.Layout.{opened_of};
 ghost use Rattle.complete_tables.specs.Complete.{opened_complete};
 ghost use Rattle.coded_tables.specs.Tables.{FindsTable, ReadsMarks};
 
 // The answer to a call, the layout after it, and whether it differs from the one before.
-#[derive(Drop)]
+#[derive(Clone, Copy)]
 pub struct Found {
     pub answer: answer_words::Answer,
     pub layout: table_layout::Layout,

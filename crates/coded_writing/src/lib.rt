@@ -1,4 +1,6 @@
 // The writer of table files with its answer in three words.
+#![tactic(auto)]
+ghost use Rattle.context.specs.Parts.{shared};
 ghost use Rattle.std.specs.Prelude.{◌≡◌};
 ghost use Rattle.coded_writing.specs.Writing.{code_of_written, WritesCoded};
 
@@ -16,7 +18,7 @@ fn answer_of(written: Written) -> Answer
 
 // Writes a table file into a lent output: the number of bytes, or 1 to 5, 26, 30.
 pub fn write_table(n: usize, used: usize, rows: &[u64], names: &[u8], out: &mut [u8]) -> Answer
-    ensures { WritesCoded n used rows names out result }
+    ensures { WritesCoded n used (shared rows) names out result }
 {
     let written = table_writer::write_table(n, used, rows, names, out);
     answer_of(written)

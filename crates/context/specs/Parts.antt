@@ -1,7 +1,7 @@
 -- What the code computes on the way to `lacks` and `refutes`: the set that is spared with an attribute, and the part of a conclusion that
 -- an object refutes. `Laws` says what they have to do with `lacks`, `refutes` and the reach.
 use Rattle.std.specs.Prelude.{◌≡◌, true, false, List, ℕ}
-use Rattle.std.specs.Borrow.{Bor}
+use Rattle.std.specs.Borrow.{Bor, MutBor}
 use denote.Triple.Both.{Both}
 use Rattle.std.specs.Int.Bits.{bit_and, bit_or}
 use Rattle.theory.specs.Implications.{Implication}
@@ -10,9 +10,24 @@ use Rattle.implication.specs.Closure.{in_force, closure}
 use Rattle.context.specs.Objects.{Object, objects_of, has, lacks, first_refuting}
 pub mod Laws
 
+-- what a reference points to, at one moment
+pub record At (A : Type 0) : Type 0 where
+  pub now : A
+
+-- the same as a call finds it and as it leaves it
+abbrev pub Lent : Type 0 → Type 0
+Lent A = Both (At A) (At A)
+
+-- that of a `&` and that of a `&mut`
+abbrev pub shared : {A : Type 0} → Both (Bor A) (Bor A) → Lent A
+shared r = record { entry = record { now = r.entry.now }; exit = record { now = r.exit.now } }
+
+abbrev pub mutable : {A : Type 0} → Both (MutBor A) (MutBor A) → Lent A
+mutable r = record { entry = record { now = r.entry.now }; exit = record { now = r.exit.now } }
+
 -- a lent slice of words, as a call finds it and as it leaves it
 abbrev pub Words : Type 0
-Words = Both (Bor (List ℕ)) (Bor (List ℕ))
+Words = Lent (List ℕ)
 
 -- the implications in force in the lent words: all of the background, the first so many of the list
 abbrev pub lent_force : Words → Words → ℕ → List (Implication ℕ)

@@ -1,4 +1,6 @@
 // The first row that contradicts the implications in force with one more.
+#![tactic(auto)]
+ghost use Rattle.context.specs.Parts.{shared};
 ghost use Rattle.std.specs.Prelude.{◌≡◌, ◌*◌, ◌≤◌, length};
 ghost use Rattle.context.specs.Places.{lowest};
 ghost use Rattle.context.specs.Objects.{object, objects_of, contradicts};
@@ -14,7 +16,7 @@ fn contradiction(
     yes: u64,
     no: u64,
 ) -> bool
-    ensures { result ≡ contradicts (with_rule background list rules premise conclusion) (object yes no) }
+    ensures { result ≡ contradicts (with_rule (shared background) (shared list) rules premise conclusion) (object yes no) }
 {
     following::closure_with(background, list, rules, premise, conclusion, yes) & no != 0
 }
@@ -30,7 +32,7 @@ fn contradiction_among(
     conclusion: u64,
 ) -> usize
     requires { count * 2 ≤ length rows.now }
-    ensures { result ≡ lowest (contradicts (with_rule background list rules premise conclusion)) (objects_of count rows.now) }
+    ensures { result ≡ lowest (contradicts (with_rule (shared background) (shared list) rules premise conclusion)) (objects_of count rows.now) }
 {
     let mut i = 0;
     while i < count {
@@ -60,7 +62,7 @@ pub fn first_contradiction(
     premise: u64,
     conclusion: u64,
 ) -> usize
-    ensures { result ≡ lowest (contradicts (with_rule background list rules premise conclusion)) (objects_of count rows.now) }
+    ensures { result ≡ lowest (contradicts (with_rule (shared background) (shared list) rules premise conclusion)) (objects_of count rows.now) }
 {
     let whole = closures::smaller(count, rows.len() / 2);
     let place = contradiction_among(rows, whole, list, rules, background, premise, conclusion);

@@ -1,5 +1,6 @@
 // The output handed over to be written, part by part as it becomes known. How many bytes went is counted, so that none goes twice and
 // none is left out.
+#![tactic(auto)]
 ghost use Rattle.std.specs.Prelude.{length};
 ghost use Rattle.closing_lines.specs.Closing.{refusal_line};
 ghost use Rattle.handed_output.specs.Handing.{HandsOver, Tells};
@@ -8,14 +9,14 @@ ghost use Rattle.handed_output.specs.Handing.{HandsOver, Tells};
 const MOST: usize = 18446744073709551615;
 
 // How many bytes were handed over, and whether every write took all of its part.
-#[derive(Drop)]
+#[derive(Clone, Copy)]
 pub struct Handed {
     pub bytes: usize,
     pub whole: bool,
 }
 
 // What an output leaves: the offset behind its text in the buffer, and what was handed over.
-#[derive(Drop)]
+#[derive(Clone, Copy)]
 pub struct Told {
     pub end: usize,
     pub handed: Handed,

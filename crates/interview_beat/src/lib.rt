@@ -1,11 +1,13 @@
 // One beat of an interview over a complete table (01: the program), below the checks: a step, and the table's reply where it asks.
+#![tactic(auto)]
+ghost use Rattle.context.specs.Parts.{mutable, shared};
 ghost use Rattle.interview_beat.specs.Beat.{WritesEnd, Advances};
 
 use interview_replies::{Beaten, Interview};
 
 // Finished: the list and the totals.
 fn finish(rows: &[u64], list: &[u64], interview: Interview, out: &mut [u8], at: usize) -> usize
-    ensures { WritesEnd interview rows list out at result }
+    ensures { WritesEnd interview (shared rows) (shared list) out at result }
 {
     let end = output_lines::put_list(out, at, interview.n, list, interview.rules);
     closing_lines::put_end(
@@ -27,7 +29,7 @@ pub fn advance(
     out: &mut [u8],
     at: usize,
 ) -> Beaten
-    ensures { Advances objects table interview rows list out at result }
+    ensures { Advances objects (shared table) interview (mutable rows) (mutable list) out at result }
 {
     let n = interview.n;
     let current = interview.current;

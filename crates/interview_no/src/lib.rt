@@ -1,4 +1,6 @@
 // No to the question of an interview (01: the program), below the checks: the Q line, and the row in its place.
+#![tactic(auto)]
+ghost use Rattle.context.specs.Parts.{mutable, shared};
 ghost use Rattle.context.specs.Objects.{object};
 ghost use Rattle.interview_replies.specs.Holding.{Beats, no_beat};
 
@@ -16,7 +18,7 @@ pub fn say_no(
     out: &mut [u8],
     at: usize,
 ) -> Beaten
-    ensures { Beats (no_beat interview rows list conclusion number (object yes no)) rows list out at result }
+    ensures { Beats (no_beat interview (mutable rows) (shared list) conclusion number (object yes no)) (mutable rows) (shared list) out at result }
 {
     let used = interview.rows;
     let n = interview.n;

@@ -1,9 +1,10 @@
 // Where an interview of a table is (01: the program), and what one beat of it leaves.
+#![tactic(auto)]
 ghost use Rattle.std.specs.Prelude.{◌≡◌};
 ghost use Rattle.transcript.specs.Core.{counted};
 
 // Where an interview is: the number of attributes, the rows and rules in use, the current set, and how often it has changed.
-#[derive(Drop)]
+#[derive(Clone, Copy)]
 pub struct Interview {
     pub n: usize,
     pub rows: usize,
@@ -13,7 +14,7 @@ pub struct Interview {
 }
 
 // What one beat leaves: the interview, the offset behind what it wrote, and whether it is the last.
-#[derive(Drop)]
+#[derive(Clone, Copy)]
 pub struct Beaten {
     pub interview: Interview,
     pub at: usize,

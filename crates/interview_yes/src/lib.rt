@@ -1,4 +1,6 @@
 // Yes to the question of an interview (01: the program), below the checks: the Q line, and the rule in its place.
+#![tactic(auto)]
+ghost use Rattle.context.specs.Parts.{mutable, shared};
 ghost use Rattle.std.specs.Prelude.{◌≤◌};
 ghost use Rattle.session.specs.Limits.{most_attributes};
 ghost use Rattle.interview_replies.specs.Holding.{Beats, yes_beat};
@@ -14,7 +16,7 @@ pub fn say_yes(
     out: &mut [u8],
     at: usize,
 ) -> Beaten
-    ensures { interview.n ≤ most_attributes → Beats (yes_beat interview rows list conclusion) rows list out at result }
+    ensures { interview.n ≤ most_attributes → Beats (yes_beat interview (shared rows) (mutable list) conclusion) (shared rows) (mutable list) out at result }
 {
     let n = interview.n;
     let rules = interview.rules;

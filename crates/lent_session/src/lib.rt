@@ -1,5 +1,7 @@
 // The calls of a session over a record that is lent: each reads the record, makes the call by value, and stores the record where it
 // changed. A call that only reads takes it by `&`.
+#![tactic(auto)]
+ghost use Rattle.context.specs.Parts.{mutable, shared};
 ghost use Rattle.implication.specs.Closure.{implication};
 ghost use Rattle.context.specs.Objects.{object};
 ghost use Rattle.machine.specs.Machine.{step as stepping, accept as accepting, reject as rejecting, follow, refute, test, file, fill};
@@ -16,7 +18,7 @@ pub fn step(
     list: &[u64],
     background: &[u64],
 ) -> session_steps::Step
-    ensures { PerformsOn stepping session rows list background (step_answer result) }
+    ensures { PerformsOn stepping (mutable session) (shared rows) (shared list) (shared background) (step_answer result) }
 {
     let held = *session;
     let turn = session_steps::make_step(held, rows, list, background);
@@ -33,7 +35,7 @@ pub fn accept(
     list: &mut [u64],
     background: &[u64],
 ) -> session_replies::Reply
-    ensures { PerformsOn accepting session rows list background (reply_answer result) }
+    ensures { PerformsOn accepting (mutable session) (shared rows) (mutable list) (shared background) (reply_answer result) }
 {
     let held = *session;
     let turn = session_yes::accept(held, rows, list, background);
@@ -52,7 +54,7 @@ pub fn reject(
     yes: u64,
     no: u64,
 ) -> session_replies::Reply
-    ensures { PerformsOn (rejecting (object yes no)) session rows list background (reply_answer result) }
+    ensures { PerformsOn (rejecting (object yes no)) (mutable session) (mutable rows) (shared list) (shared background) (reply_answer result) }
 {
     let held = *session;
     let turn = session_no::reject(held, rows, list, background, yes, no);
@@ -71,7 +73,7 @@ pub fn follows(
     premise: u64,
     conclusion: u64,
 ) -> session_queries::Following
-    ensures { PerformsOn (follow (implication premise conclusion)) session rows list background (following_answer result) }
+    ensures { PerformsOn (follow (implication premise conclusion)) (shared session) (shared rows) (shared list) (shared background) (following_answer result) }
 {
     session_queries::follows(*session, rows, list, background, premise, conclusion)
 }
@@ -85,7 +87,7 @@ pub fn refuted(
     premise: u64,
     conclusion: u64,
 ) -> session_queries::Refuting
-    ensures { PerformsOn (refute (implication premise conclusion)) session rows list background (refuting_answer result) }
+    ensures { PerformsOn (refute (implication premise conclusion)) (shared session) (shared rows) (shared list) (shared background) (refuting_answer result) }
 {
     session_queries::refuted(*session, rows, list, background, premise, conclusion)
 }
@@ -99,7 +101,7 @@ pub fn test_row(
     yes: u64,
     no: u64,
 ) -> session_test::Testing
-    ensures { PerformsOn (test (object yes no)) session rows list background (testing_answer result) }
+    ensures { PerformsOn (test (object yes no)) (shared session) (shared rows) (shared list) (shared background) (testing_answer result) }
 {
     session_test::test_row(*session, rows, list, background, yes, no)
 }
@@ -113,7 +115,7 @@ pub fn file_row(
     yes: u64,
     no: u64,
 ) -> session_replies::Reply
-    ensures { PerformsOn (file (object yes no)) session rows list background (reply_answer result) }
+    ensures { PerformsOn (file (object yes no)) (mutable session) (mutable rows) (shared list) (shared background) (reply_answer result) }
 {
     let held = *session;
     let turn = session_filing::file_row(held, rows, list, background, yes, no);
@@ -133,7 +135,7 @@ pub fn fill_row(
     yes: u64,
     no: u64,
 ) -> session_replies::Reply
-    ensures { PerformsOn (fill row (object yes no)) session rows list background (reply_answer result) }
+    ensures { PerformsOn (fill row (object yes no)) (mutable session) (mutable rows) (shared list) (shared background) (reply_answer result) }
 {
     session_late_marks::fill_row(*session, rows, list, background, row, yes, no)
 }

@@ -1,11 +1,12 @@
 // One line of a table file: the refusal, or where the next line begins.
+#![tactic(auto)]
 ghost use Rattle.std.specs.Prelude.{◌≡◌, [], ◌∷◌};
 ghost use Rattle.line_walk.specs.Walk.{walk};
 
 use table_kinds::Kind;
 
 // Lines in order: the first that is refused, or the offset where they end.
-#[derive(Drop)]
+#[derive(Clone, Copy)]
 pub enum Walk {
     Failed(session::Refusal),
     At(usize),

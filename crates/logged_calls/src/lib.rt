@@ -1,4 +1,6 @@
 // One call of a log, by its kind and three arguments, with its answer in three words.
+#![tactic(auto)]
+ghost use Rattle.context.specs.Parts.{mutable, shared};
 ghost use Rattle.logged_calls.specs.Kinds.{call_of, ReplaysOne};
 
 // The kinds of calls.
@@ -29,7 +31,7 @@ pub fn replay_one(
     b: u64,
     c: u64,
 ) -> coded_opening::Turn
-    ensures { ReplaysOne (call_of kind a b c) session rows list background result.answer result.session }
+    ensures { ReplaysOne (call_of kind a b c) session (mutable rows) (mutable list) (shared background) result.answer result.session }
 {
     if kind == STEP {
         return coded_calls::step(session, rows, list, background);

@@ -2,12 +2,11 @@
 -- call commits to"): it is that call of the plain machine, and no lent word changes but the two that an accepted reply, filing or filling
 -- writes.
 use Rattle.std.specs.Prelude.{◌≡◌, Bool, true, false, List, ℕ, ◌+◌, ◌*◌, length, set}
-use denote.Triple.Both.{Both}
-use Rattle.std.specs.Borrow.{Bor}
 use Rattle.session.specs.declared.Session.{Session}
 use Rattle.implication.specs.Closure.{implications_of, all_implications}
 use Rattle.context.specs.Objects.{objects_of}
 use Rattle.context.specs.Filling.{joined, object_at}
+use Rattle.context.specs.Parts.{Lent}
 pub use Rattle.context.specs.Parts.{Words}
 use Rattle.machine.specs.Checks.{State, question}
 use Rattle.machine.specs.Machine.{Call, step, accept, reject, follow, refute, test, file, fill, Answer, finished, moved, asked, taken, followed, refuted, unrefuted, refuting, refused, perform, Opening, opening}
@@ -28,7 +27,7 @@ state_of s rows list background = record {
 
 -- a lent record, at the same two moments
 abbrev pub Record : Type 0
-Record = Both (Bor Session) (Bor Session)
+Record = Lent Session
 
 -- the state that a call is given: rows, list, background
 abbrev pub given : Session → Words → Words → Words → State

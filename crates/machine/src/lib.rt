@@ -1,1 +1,2 @@
 // The plain machine has no code: its definitions and its computed cases stand in specs/.
+#![tactic(auto)]

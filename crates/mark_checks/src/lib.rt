@@ -1,4 +1,6 @@
 // Checks 5 and 6 of document 01: rows in use that mark an attribute both ways, or that contradict the rules in force.
+#![tactic(auto)]
+ghost use Rattle.context.specs.Parts.{shared};
 ghost use Rattle.std.specs.Prelude.{◌≡◌, ◌+◌, ◌-◌, ◌*◌, ◌≤◌, length, drop};
 ghost use Rattle.context.specs.Places.{lowest};
 ghost use Rattle.context.specs.Objects.{objects_of, marked_twice};
@@ -28,7 +30,7 @@ pub fn check_marks(
     list: &[u64],
     background: &[u64],
 ) -> size_checks::Verdict
-    ensures { Marks (given session rows list background) result }
+    ensures { Marks (given session (shared rows) (shared list) (shared background)) result }
 {
     let used = session.rows;
     let rules = session.rules;

@@ -1,4 +1,5 @@
 // Where the names of a table file stand in it, by number. An object is 01's row, an attribute its property.
+#![tactic(auto)]
 ghost use Rattle.std.specs.Prelude.{◌≡◌};
 ghost use Rattle.found_layout.specs.Found.{finds};
 ghost use Rattle.table_lines.specs.Lines.{skipped};
@@ -7,7 +8,7 @@ ghost use Rattle.name_spans.specs.Spans.{span_from, object_span, attribute_span}
 use table_layout::Layout;
 
 // A part of the file: where it begins, and how many bytes it has.
-#[derive(Drop)]
+#[derive(Clone, Copy)]
 pub struct Span {
     pub at: usize,
     pub size: usize,

@@ -1,11 +1,12 @@
 // Files that the arguments of a program name, each read to a buffer.
+#![tactic(auto)]
 ghost use Rattle.std.specs.Prelude.{◌≡◌, false};
 ghost use Rattle.io.specs.Counts.{IsPrefixLen};
 
 use libc::STDOUT_FILENO;
 
 // So many bytes of a file stand at the start of the buffer; none where it could not be opened.
-#[derive(Drop)]
+#[derive(Clone, Copy)]
 pub struct NamedFile {
     pub size: usize,
     pub opened: bool,

@@ -6,7 +6,7 @@ use Rattle.table_layout.specs.declared.Layout.{Layout}
 use Rattle.table_layout.specs.declared.Opened.{Opened}
 use Rattle.table_layout.specs.declared.Opened.TheVariants.{Found, Refused}
 use Rattle.table_rows.specs.Rows.{rows_from}
-use Rattle.text.specs.Page.{Buffer}
+use Rattle.text.specs.Page.{Buffer, Bytes}
 use Rattle.closing_lines.specs.Closing.{refusal_line}
 use Rattle.handed_output.specs.declared.Told.{Told}
 use Rattle.standard_streams.specs.Answers.{AnswersIn}
@@ -37,5 +37,5 @@ abbrev pub nearly_most : ℕ
 nearly_most = 274560
 
 -- the buffer holds the first 65,536 bytes of the input, so many of its bytes: the text is the program's output for that input
-abbrev pub Answers : Buffer → ℕ → Buffer → Told → Type 0
+abbrev pub Answers : Bytes → ℕ → Buffer → Told → Type 0
 Answers file size out r = AnswersIn nearly_output input_most file.entry.now size out.entry.now out.exit.now r

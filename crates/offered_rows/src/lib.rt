@@ -1,5 +1,7 @@
 // The checks of an offered row, in document 01's order: 9 and 10 of a test to a question that stands, 9 and 11 of a filing; 9, 33 and 11 of
 // marks offered for a row.
+#![tactic(auto)]
+ghost use Rattle.context.specs.Parts.{shared};
 ghost use Rattle.implication.specs.Closure.{implication};
 ghost use Rattle.context.specs.Objects.{object, contradicts};
 ghost use Rattle.context.specs.Filling.{reverses};
@@ -17,7 +19,7 @@ pub fn check_tested_row(
     premise: u64,
     conclusion: u64,
 ) -> size_checks::Verdict
-    ensures { RowTested n (lent_force background list rules) (implication premise conclusion) (object yes no) result }
+    ensures { RowTested n (lent_force (shared background) (shared list) rules) (implication premise conclusion) (object yes no) result }
 {
     if row_tests::bad_row(n, yes, no) {
         return size_checks::refused(9, 0);
@@ -37,7 +39,7 @@ pub fn check_filed_row(
     yes: u64,
     no: u64,
 ) -> size_checks::Verdict
-    ensures { RowFits n (lent_force background list rules) (object yes no) result }
+    ensures { RowFits n (lent_force (shared background) (shared list) rules) (object yes no) result }
 {
     if row_tests::bad_row(n, yes, no) {
         return size_checks::refused(9, 0);
@@ -59,7 +61,7 @@ pub fn check_added_marks(
     yes: u64,
     no: u64,
 ) -> size_checks::Verdict
-    ensures { MarksFit n (lent_force background list rules) (object known_yes known_no) (object yes no) result }
+    ensures { MarksFit n (lent_force (shared background) (shared list) rules) (object known_yes known_no) (object yes no) result }
 {
     if row_tests::bad_row(n, yes, no) {
         return size_checks::refused(9, 0);

@@ -1,4 +1,5 @@
 // An opened table as a view: the file that it was opened from and what reading it found (01, "The table file").
+#![tactic(auto)]
 ghost use Rattle.std.specs.Prelude.{◌≡◌, length};
 ghost use Rattle.table_layout.specs.Layout.{opened_of};
 ghost use Rattle.mark_reading.specs.Marks.{reading_as, words_of_rows};
@@ -8,14 +9,14 @@ use answer_words::Answer;
 use table_layout::{Layout, Opened};
 
 // The file, the counts, and where the names of each kind and the marks begin.
-#[derive(Drop)]
+#[derive(Clone, Copy)]
 pub struct Table<'a> {
     pub file: &'a [u8],
     pub layout: Layout,
 }
 
 // What opening a file answers, and the layout of its view.
-#[derive(Drop)]
+#[derive(Clone, Copy)]
 pub struct Opening {
     pub answer: Answer,
     pub layout: Layout,

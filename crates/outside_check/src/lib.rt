@@ -1,4 +1,6 @@
 // Check 4 of document 01: nothing in the session record and the lent words, nor the rule asked about, has an attribute outside M.
+#![tactic(auto)]
+ghost use Rattle.context.specs.Parts.{shared};
 ghost use Rattle.std.specs.Prelude.{◌≡◌, Bool, ◌*◌, ◌≤◌, length};
 ghost use Rattle.implication.specs.Pairs.{pairs};
 ghost use Rattle.implication.specs.Closure.{implication};
@@ -41,7 +43,7 @@ pub fn check_outside(
     premise: u64,
     conclusion: u64,
 ) -> bool
-    ensures { Outside (given session rows list background) (implication premise conclusion) result }
+    ensures { Outside (given session (shared rows) (shared list) (shared background)) (implication premise conclusion) result }
 {
     let used = closures::smaller(session.rows, rows.len() / 2);
     let rules = closures::smaller(session.rules, list.len() / 2);

@@ -1,1 +1,2 @@
 // The reach has no code here: its definition and laws stand in specs/.
+#![tactic(auto)]

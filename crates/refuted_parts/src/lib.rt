@@ -1,5 +1,7 @@
 // What of an implication an object refutes by the marks that the implications in force imply. An object is two words: the yes marks, then
 // the no marks. In force are the whole background and the first so many of the list.
+#![tactic(auto)]
+ghost use Rattle.context.specs.Parts.{shared};
 ghost use Rattle.std.specs.Prelude.{◌≡◌};
 ghost use Rattle.std.specs.Int.Bits.{bit_and};
 ghost use Rattle.implication.specs.Closure.{implication, in_force, closure};
@@ -15,7 +17,7 @@ fn spared_with(
     no: u64,
     attribute: u64,
 ) -> u64
-    ensures { result ≡ spared (lent_force background list rules) (object yes no) attribute }
+    ensures { result ≡ spared (lent_force (shared background) (shared list) rules) (object yes no) attribute }
 {
     let found = closures::close_until(background, list, rules, yes | attribute, no);
     if found & no != 0 {
@@ -37,7 +39,7 @@ fn lacked_among(
 ) -> u64
     requires has_value { has ≡ closure (in_force background.now list.now rules) yes }
     requires no_value { bit_and has no ≡ 0 }
-    ensures { result ≡ bit_and among (lacks (lent_force background list rules) (object yes no)) }
+    ensures { result ≡ bit_and among (lacks (lent_force (shared background) (shared list) rules) (object yes no)) }
 {
     let mut lacked = among & no;
     let mut left = set_words::difference(set_words::difference(among, no), has);
@@ -60,7 +62,7 @@ pub fn refuted_part(
     premise: u64,
     conclusion: u64,
 ) -> u64
-    ensures { result ≡ refuted_part (lent_force background list rules) (object yes no) (implication premise conclusion) }
+    ensures { result ≡ refuted_part (lent_force (shared background) (shared list) rules) (object yes no) (implication premise conclusion) }
 {
     if no == 0 {
         return 0;

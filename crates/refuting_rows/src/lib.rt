@@ -1,5 +1,7 @@
 // Objects in a flat slice, two words each: whether one of them refutes an implication by the marks that the implications in force
 // imply, and the first that does. In force are the whole background and the first so many of the list.
+#![tactic(auto)]
+ghost use Rattle.context.specs.Parts.{shared};
 ghost use Rattle.std.specs.Prelude.{◌≡◌, ◌*◌, ◌≤◌, length};
 ghost use Rattle.implication.specs.Closure.{implication};
 ghost use Rattle.context.specs.Objects.{object, refutes};
@@ -15,7 +17,7 @@ pub fn refuted_by(
     premise: u64,
     conclusion: u64,
 ) -> bool
-    ensures { result ≡ refutes (lent_force background list rules) (object yes no) (implication premise conclusion) }
+    ensures { result ≡ refutes (lent_force (shared background) (shared list) rules) (object yes no) (implication premise conclusion) }
 {
     refuted_parts::refuted_part(background, list, rules, yes, no, premise, conclusion) != 0
 }
@@ -31,7 +33,7 @@ fn refuting_among(
     conclusion: u64,
 ) -> usize
     requires { count * 2 ≤ length rows.now }
-    ensures { FirstRefuting background list rules rows count (implication premise conclusion) result }
+    ensures { FirstRefuting (shared background) (shared list) rules (shared rows) count (implication premise conclusion) result }
 {
     let mut place = 0;
     while place < count {
@@ -61,7 +63,7 @@ pub fn first_refuting(
     premise: u64,
     conclusion: u64,
 ) -> usize
-    ensures { FirstRefuting background list rules rows count (implication premise conclusion) result }
+    ensures { FirstRefuting (shared background) (shared list) rules (shared rows) count (implication premise conclusion) result }
 {
     let whole = closures::smaller(count, rows.len() / 2);
     let place = refuting_among(rows, whole, background, list, rules, premise, conclusion);

@@ -1,4 +1,6 @@
 // All checks of a yes and of a test: 1 to 7, 8, and those behind it.
+#![tactic(auto)]
+ghost use Rattle.context.specs.Parts.{shared};
 ghost use Rattle.std.specs.Prelude.{◌≡◌};
 ghost use Rattle.context.specs.Objects.{object};
 ghost use Rattle.machine.specs.Machine.{accept as accepting, test};
@@ -7,7 +9,7 @@ ghost use Rattle.size_checks.specs.Verdicts.{verdict_of};
 ghost use Rattle.reply_checks.specs.Outcomes.{asking, asking_after, unasked};
 
 // The standing question, to which a reply or a test passes its checks, or its refusal.
-#[derive(Drop)]
+#[derive(Clone, Copy)]
 pub enum Asking {
     Question(standing::Question),
     Refused(session::Refusal),
@@ -37,7 +39,7 @@ pub fn check_yes(
     list: &[u64],
     background: &[u64],
 ) -> Asking
-    ensures { result ≡ asking (given session rows list background) accepting }
+    ensures { result ≡ asking (given session (shared rows) (shared list) (shared background)) accepting }
 {
     let standing = standing::find_standing(session, rows, list, background);
     match standing {
@@ -67,7 +69,7 @@ pub fn check_test(
     yes: u64,
     no: u64,
 ) -> Asking
-    ensures { result ≡ asking (given session rows list background) (test (object yes no)) }
+    ensures { result ≡ asking (given session (shared rows) (shared list) (shared background)) (test (object yes no)) }
 {
     let n = session.n;
     let rules = session.rules;

@@ -1,5 +1,7 @@
 // The reach of a set over objects in a flat slice, two words each: the yes marks, then the no marks. Objects are read by the marks that
 // the implications in force imply: the whole background and the first so many of the list.
+#![tactic(auto)]
+ghost use Rattle.context.specs.Parts.{shared};
 ghost use Rattle.std.specs.Prelude.{◌≡◌, ◌*◌, ◌≤◌, min, length};
 ghost use Rattle.context.specs.Objects.{object};
 ghost use Rattle.context.specs.Parts.{lent_force};
@@ -16,7 +18,7 @@ fn cut_by(
     set: u64,
     x: u64,
 ) -> u64
-    ensures { result ≡ cut (lent_force background list rules) set (object yes no) x }
+    ensures { result ≡ cut (lent_force (shared background) (shared list) rules) set (object yes no) x }
 {
     set_words::difference(
         x,
@@ -35,7 +37,7 @@ fn narrow_by(
     x: u64,
 ) -> u64
     requires { count * 2 ≤ length rows.now }
-    ensures { NarrowBy background list rules rows count set x result }
+    ensures { NarrowBy (shared background) (shared list) rules (shared rows) count set x result }
 {
     let mut left = x;
     let mut i = 0;
@@ -64,7 +66,7 @@ pub fn reach_of(
     rules: usize,
     set: u64,
 ) -> u64
-    ensures { ReachOf background list rules (min n 64) rows count set result }
+    ensures { ReachOf (shared background) (shared list) rules (min n 64) (shared rows) count set result }
 {
     narrow_by(
         rows,

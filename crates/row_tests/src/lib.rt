@@ -1,4 +1,6 @@
 // The tests behind the checks of an offered row: of its marks alone (9), against known marks (33), and against the rules in force (11).
+#![tactic(auto)]
+ghost use Rattle.context.specs.Parts.{shared};
 ghost use Rattle.std.specs.Prelude.{◌≡◌};
 ghost use Rattle.context.specs.Objects.{object, contradicts};
 ghost use Rattle.context.specs.Filling.{reverses};
@@ -27,7 +29,7 @@ pub fn reverses_mark(known_yes: u64, known_no: u64, yes: u64, no: u64) -> bool
 
 // The test of check 11: a row that contradicts the implications in force.
 pub fn row_contradicts(background: &[u64], list: &[u64], rules: usize, yes: u64, no: u64) -> bool
-    ensures { result ≡ contradicts (lent_force background list rules) (object yes no) }
+    ensures { result ≡ contradicts (lent_force (shared background) (shared list) rules) (object yes no) }
 {
     closures::closure_of(background, list, rules, yes) & no != 0
 }

@@ -1,4 +1,6 @@
 // Checks 11 and 12 of document 01, in its order, of a yes to a question that stands.
+#![tactic(auto)]
+ghost use Rattle.context.specs.Parts.{shared};
 ghost use Rattle.implication.specs.Closure.{implication};
 ghost use Rattle.machine.specs.Calls.{given};
 ghost use Rattle.rule_tests.specs.Tests.{RuleTested};
@@ -12,7 +14,7 @@ pub fn check_rule(
     premise: u64,
     conclusion: u64,
 ) -> size_checks::Verdict
-    ensures { RuleTested (given session rows list background) (implication premise conclusion) result }
+    ensures { RuleTested (given session (shared rows) (shared list) (shared background)) (implication premise conclusion) result }
 {
     let used = session.rows;
     let rules = session.rules;

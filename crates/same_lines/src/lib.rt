@@ -1,1 +1,2 @@
 // Table files with the same lines. There is no code: what is proved stands in specs/.
+#![tactic(auto)]

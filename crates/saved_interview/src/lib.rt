@@ -1,4 +1,6 @@
 // A saved interview taken up again: a session is opened, and a log of calls is made on it.
+#![tactic(auto)]
+ghost use Rattle.context.specs.Parts.{mutable, shared};
 ghost use Rattle.saved_interview.specs.TakingUp.{TurnAfter, TakesUpTo};
 
 // The answer to a log, and the record after it: the one before where the answers had no room.
@@ -35,7 +37,7 @@ pub fn open_and_replay(
     calls: &[u64],
     answers: &mut [u64],
 ) -> coded_opening::Turn
-    ensures { TakesUpTo n used session rows list background calls answers result.answer result.session result.changed }
+    ensures { TakesUpTo n used session (mutable rows) (mutable list) (shared background) (shared calls) (mutable answers) result.answer result.session result.changed }
 {
     let opened = session_opening::open(n, used, rows, list, background);
     let start = match opened {

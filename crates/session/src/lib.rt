@@ -1,11 +1,12 @@
 // The session record with its limits, and the refusal: what every call of the library is made with.
+#![tactic(auto)]
 ghost use Rattle.std.specs.Prelude.{◌≡◌, not};
 ghost use Rattle.session.specs.Refusals.{refusal};
 ghost use Rattle.session.specs.Records.{same_session};
 
 // An interview between two calls: the number of attributes (01: properties), the rows and rules in use, the current set.
 #[repr(C)]
-#[derive(Drop)]
+#[derive(Clone, Copy)]
 pub struct Session {
     pub n: usize,
     pub rows: usize,
@@ -23,7 +24,7 @@ impl Session {
 }
 
 // Document 01's number and place.
-#[derive(Drop)]
+#[derive(Clone, Copy)]
 pub struct Refusal {
     pub number: u64,
     pub place: usize,

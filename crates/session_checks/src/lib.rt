@@ -1,4 +1,6 @@
 // Checks 1 to 7 of document 01, in its order, on the session record and the lent words (row words, list words, background words).
+#![tactic(auto)]
+ghost use Rattle.context.specs.Parts.{shared};
 ghost use Rattle.std.specs.Prelude.{◌≡◌};
 ghost use Rattle.implication.specs.Closure.{implication};
 ghost use Rattle.machine.specs.Calls.{given};
@@ -12,7 +14,7 @@ fn check_closed(
     rules: usize,
     current: u64,
 ) -> size_checks::Verdict
-    ensures { Closed background list rules current result }
+    ensures { Closed (shared background) (shared list) rules current result }
 {
     if closures::closure_of(background, list, rules, current) != current {
         return size_checks::refused(7, 0);
@@ -39,7 +41,7 @@ pub fn check_session(
     premise: u64,
     conclusion: u64,
 ) -> size_checks::Verdict
-    ensures { Checked (given session rows list background) (implication premise conclusion) result }
+    ensures { Checked (given session (shared rows) (shared list) (shared background)) (implication premise conclusion) result }
 {
     let rules = session.rules;
     let current = session.current;

@@ -1,5 +1,7 @@
 // The filing of an offered row, by value. It takes the record and the lent words (row words, list words, background words), makes its
 // checks, writes the row, and gives the record back.
+#![tactic(auto)]
+ghost use Rattle.context.specs.Parts.{mutable, shared};
 ghost use Rattle.context.specs.Objects.{object};
 ghost use Rattle.machine.specs.Machine.{file};
 ghost use Rattle.machine.specs.Calls.{Turns};
@@ -14,7 +16,7 @@ pub fn file_row(
     yes: u64,
     no: u64,
 ) -> session_replies::Replied
-    ensures { Turns (file (object yes no)) session rows list background (reply_answer result.answer) result.session result.changed }
+    ensures { Turns (file (object yes no)) session (mutable rows) (shared list) (shared background) (reply_answer result.answer) result.session result.changed }
 {
     let verdict = session_checks::check_session(session, rows, list, background, 0, 0);
     if let size_checks::Verdict::Refused(refusal) = verdict {

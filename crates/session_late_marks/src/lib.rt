@@ -1,5 +1,7 @@
 // The filling of a row with marks that became known, by value. It takes the record and the lent words (row words, list words, background
 // words), makes its checks, and writes the row. The record stays as it is.
+#![tactic(auto)]
+ghost use Rattle.context.specs.Parts.{mutable, shared};
 ghost use Rattle.std.specs.Prelude.{◌≡◌, ◌+◌, ◌*◌, ◌<◌, length};
 ghost use Rattle.context.specs.Objects.{object};
 ghost use Rattle.machine.specs.Machine.{fill};
@@ -17,7 +19,7 @@ fn check_fill(
     yes: u64,
     no: u64,
 ) -> size_checks::Verdict
-    ensures { FillChecked (given session rows list background) row (object yes no) result }
+    ensures { FillChecked (given session (shared rows) (shared list) (shared background)) row (object yes no) result }
 {
     let verdict = session_checks::check_session(session, rows, list, background, 0, 0);
     if let size_checks::Verdict::Refused(refusal) = verdict {
@@ -55,7 +57,7 @@ pub fn fill_row(
     yes: u64,
     no: u64,
 ) -> session_replies::Reply
-    ensures { Performs (fill row (object yes no)) session rows list background (reply_answer result) session }
+    ensures { Performs (fill row (object yes no)) session (mutable rows) (shared list) (shared background) (reply_answer result) session }
 {
     let verdict = check_fill(session, rows, list, background, row, yes, no);
     if let size_checks::Verdict::Refused(refusal) = verdict {

@@ -1,5 +1,7 @@
 // The no to the standing question of a session, by value: the test of the offered row, and where it passes the filing. It takes the record
 // and the lent words (row words, list words, background words), and gives the record back.
+#![tactic(auto)]
+ghost use Rattle.context.specs.Parts.{mutable, shared};
 ghost use Rattle.context.specs.Objects.{object};
 ghost use Rattle.machine.specs.Machine.{reject as rejecting};
 ghost use Rattle.machine.specs.Calls.{Turns};
@@ -14,7 +16,7 @@ pub fn reject(
     yes: u64,
     no: u64,
 ) -> session_replies::Replied
-    ensures { Turns (rejecting (object yes no)) session rows list background (reply_answer result.answer) result.session result.changed }
+    ensures { Turns (rejecting (object yes no)) session (mutable rows) (shared list) (shared background) (reply_answer result.answer) result.session result.changed }
 {
     let tested = session_test::test_row(session, rows, list, background, yes, no);
     if let session_test::Testing::Refused(refusal) = tested {

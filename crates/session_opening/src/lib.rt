@@ -1,8 +1,10 @@
 // The opening of a session, by value: it takes the lent words (row words, list words, background words), makes its checks, and gives the
 // record.
+#![tactic(auto)]
+ghost use Rattle.context.specs.Parts.{shared};
 ghost use Rattle.session_opening.specs.Opening.{Opens};
 
-#[derive(Drop)]
+#[derive(Clone, Copy)]
 pub enum Opened {
     Open(session::Session),
     Refused(session::Refusal),
@@ -10,7 +12,7 @@ pub enum Opened {
 
 // The opening: so many rows are in use, the list is empty, and the current set is the closure of the empty set.
 pub fn open(n: usize, used: usize, rows: &[u64], list: &[u64], background: &[u64]) -> Opened
-    ensures { Opens n used rows list background result }
+    ensures { Opens n used (shared rows) (shared list) (shared background) result }
 {
     let session = session::Session {
         n,

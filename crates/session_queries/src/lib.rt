@@ -1,18 +1,20 @@
 // The two read-only calls of a session, by value. Each takes the record and the lent words (row words, list words, background words),
 // makes its checks, and writes none of the words.
+#![tactic(auto)]
+ghost use Rattle.context.specs.Parts.{shared};
 ghost use Rattle.implication.specs.Closure.{implication};
 ghost use Rattle.machine.specs.Machine.{follow, refute};
 ghost use Rattle.machine.specs.Calls.{Performs};
 ghost use Rattle.session_queries.specs.Answers.{following_answer, refuting_answer};
 
-#[derive(Drop)]
+#[derive(Clone, Copy)]
 pub enum Following {
     Follows,
     Lacking,
     Refused(session::Refusal),
 }
 
-#[derive(Drop)]
+#[derive(Clone, Copy)]
 pub enum Refuting {
     By(usize),
     Nothing,
@@ -28,7 +30,7 @@ pub fn follows(
     premise: u64,
     conclusion: u64,
 ) -> Following
-    ensures { Performs (follow (implication premise conclusion)) session rows list background (following_answer result) session }
+    ensures { Performs (follow (implication premise conclusion)) session (shared rows) (shared list) (shared background) (following_answer result) session }
 {
     let rules = session.rules;
     let verdict = session_checks::check_session(
@@ -52,7 +54,7 @@ pub fn refuted(
     premise: u64,
     conclusion: u64,
 ) -> Refuting
-    ensures { Performs (refute (implication premise conclusion)) session rows list background (refuting_answer result) session }
+    ensures { Performs (refute (implication premise conclusion)) session (shared rows) (shared list) (shared background) (refuting_answer result) session }
 {
     let used = session.rows;
     let verdict = session_checks::check_session(

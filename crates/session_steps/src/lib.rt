@@ -1,10 +1,12 @@
 // The step of a session, by value. It takes the record and the lent words (row words, list words, background words), makes its checks,
 // writes none of the words, and gives the record back.
+#![tactic(auto)]
+ghost use Rattle.context.specs.Parts.{shared};
 ghost use Rattle.machine.specs.Machine.{step as stepping};
 ghost use Rattle.machine.specs.Calls.{Turns};
 ghost use Rattle.session_steps.specs.Answers.{step_answer};
 
-#[derive(Drop)]
+#[derive(Clone, Copy)]
 pub enum Step {
     Finished,
     Moved,
@@ -13,7 +15,7 @@ pub enum Step {
 }
 
 // The answer, the record after the call, and whether it differs from the one before.
-#[derive(Drop)]
+#[derive(Clone, Copy)]
 pub struct Stepped {
     pub answer: Step,
     pub session: session::Session,
@@ -27,7 +29,7 @@ pub fn make_step(
     list: &[u64],
     background: &[u64],
 ) -> Stepped
-    ensures { Turns stepping session rows list background (step_answer result.answer) result.session result.changed }
+    ensures { Turns stepping session (shared rows) (shared list) (shared background) (step_answer result.answer) result.session result.changed }
 {
     let standing = standing::find_standing(session, rows, list, background);
     match standing {

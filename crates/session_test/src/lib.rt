@@ -1,11 +1,13 @@
 // The test of an offered row, by value. It takes the record and the lent words (row words, list words, background words), makes its
 // checks, and writes none of the words.
+#![tactic(auto)]
+ghost use Rattle.context.specs.Parts.{shared};
 ghost use Rattle.context.specs.Objects.{object};
 ghost use Rattle.machine.specs.Machine.{test};
 ghost use Rattle.machine.specs.Calls.{Performs};
 ghost use Rattle.session_test.specs.Answers.{testing_answer};
 
-#[derive(Drop)]
+#[derive(Clone, Copy)]
 pub enum Testing {
     Refutes,
     Refused(session::Refusal),
@@ -20,7 +22,7 @@ pub fn test_row(
     yes: u64,
     no: u64,
 ) -> Testing
-    ensures { Performs (test (object yes no)) session rows list background (testing_answer result) session }
+    ensures { Performs (test (object yes no)) session (shared rows) (shared list) (shared background) (testing_answer result) session }
 {
     let asking = reply_checks::check_test(session, rows, list, background, yes, no);
     if let reply_checks::Asking::Refused(refusal) = asking {

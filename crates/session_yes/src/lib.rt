@@ -1,5 +1,7 @@
 // The yes to the standing question of a session, by value. It takes the record and the lent words (row words, list words, background
 // words), makes its checks, writes the rule, and gives the record back.
+#![tactic(auto)]
+ghost use Rattle.context.specs.Parts.{mutable, shared};
 ghost use Rattle.machine.specs.Machine.{accept as accepting};
 ghost use Rattle.machine.specs.Calls.{Turns};
 ghost use Rattle.session_replies.specs.Answers.{reply_answer};
@@ -11,7 +13,7 @@ pub fn accept(
     list: &mut [u64],
     background: &[u64],
 ) -> session_replies::Replied
-    ensures { Turns accepting session rows list background (reply_answer result.answer) result.session result.changed }
+    ensures { Turns accepting session (shared rows) (mutable list) (shared background) (reply_answer result.answer) result.session result.changed }
 {
     let n = session.n;
     let rules = session.rules;

@@ -1,4 +1,6 @@
 // Checks 1 to 3 of document 01, in its order: the number of attributes, the lent lengths, the rows and rules in use. What checks answer.
+#![tactic(auto)]
+ghost use Rattle.context.specs.Parts.{shared};
 ghost use Rattle.std.specs.Prelude.{◌≡◌};
 ghost use Rattle.std.proofs.Math.Option.{some};
 ghost use Rattle.session.specs.Refusals.{refusal};
@@ -6,7 +8,7 @@ ghost use Rattle.machine.specs.Calls.{given};
 ghost use Rattle.size_checks.specs.Verdicts.{verdict_of, Sizes};
 
 // Whether checks pass, or the refusal of the first that fails.
-#[derive(Drop)]
+#[derive(Clone, Copy)]
 pub enum Verdict {
     Passed,
     Refused(session::Refusal),
@@ -26,7 +28,7 @@ pub fn check_sizes(
     list: &[u64],
     background: &[u64],
 ) -> Verdict
-    ensures { Sizes (given session rows list background) result }
+    ensures { Sizes (given session (shared rows) (shared list) (shared background)) result }
 {
     if size_tests::bad_count(session.n) {
         return refused(1, 0);

@@ -1,4 +1,5 @@
 // What the programs have in common: standard input read to a buffer, and words for a person on standard error.
+#![tactic(auto)]
 ghost use Rattle.io.specs.Counts.{IsPrefixLen};
 
 use libc::STDERR_FILENO;
@@ -7,7 +8,7 @@ use libc::STDERR_FILENO;
 pub const REPORT_BYTES: usize = 512;
 
 // So many bytes were read to the start of the buffer; whether a read failed before the input ended or the buffer was full.
-#[derive(Drop)]
+#[derive(Clone, Copy)]
 pub struct Input {
     pub size: usize,
     pub failed: bool,

@@ -1,17 +1,19 @@
 // How the current set stands, where checks 1 to 7 pass.
+#![tactic(auto)]
+ghost use Rattle.context.specs.Parts.{shared};
 ghost use Rattle.std.specs.Prelude.{◌≡◌};
 ghost use Rattle.machine.specs.Calls.{given};
 ghost use Rattle.standing.specs.Standings.{found};
 
 // The rule asked about, as premise and conclusion.
-#[derive(Drop)]
+#[derive(Clone, Copy)]
 pub struct Question {
     pub premise: u64,
     pub conclusion: u64,
 }
 
 // What checks 1 to 7 refuse; else how the current set stands: it is M; its reach is itself; or a question stands.
-#[derive(Drop)]
+#[derive(Clone, Copy)]
 pub enum Standing {
     Refused(session::Refusal),
     Full,
@@ -26,7 +28,7 @@ pub fn find_standing(
     list: &[u64],
     background: &[u64],
 ) -> Standing
-    ensures { result ≡ found (given session rows list background) }
+    ensures { result ≡ found (given session (shared rows) (shared list) (shared background)) }
 {
     let n = session.n;
     let rules = session.rules;

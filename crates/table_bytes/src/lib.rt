@@ -1,9 +1,10 @@
 // The bytes of a table file: digits and marks.
+#![tactic(auto)]
 ghost use Rattle.std.specs.Prelude.{◌≡◌};
 ghost use Rattle.table_bytes.specs.Bytes.{is_digit, is_yes, is_no, is_unknown, is_mark, passes};
 
 // What is asked of a byte: to be a digit, a mark, or no unknown mark.
-#[derive(Drop)]
+#[derive(Clone, Copy)]
 pub enum ByteKind {
     Digit,
     Mark,

@@ -1,4 +1,6 @@
 // The interview of the complete table in a file (01: the program): beats until the last, each line written out when it is known.
+#![tactic(auto)]
+ghost use Rattle.context.specs.Parts.{mutable, shared};
 ghost use Rattle.std.specs.Prelude.{[], ◌*◌, ◌≤◌, length};
 ghost use Rattle.context.specs.Objects.{objects_of};
 ghost use Rattle.machine.specs.Machine.{opening};
@@ -26,7 +28,7 @@ fn run_beats(
 ) -> handed_output::Told
     requires along { Along (objects_of objects table.now) (holding start rows.old list.old) start.changes }
     requires objects_in_bounds { objects * 2 ≤ length table.now }
-    ensures { Tells out before result (remaining (tabled objects table) (held start rows list) start.changes) }
+    ensures { Tells out before result (remaining (tabled objects (shared table)) (held start (mutable rows) (mutable list)) start.changes) }
 {
     let mut interview = start;
     let mut at = 0;
@@ -55,7 +57,7 @@ fn interview_table(
     before: handed_output::Handed,
 ) -> handed_output::Told
     requires { Holds n objects table.now }
-    ensures { Tells out before result (interviewed (tabled objects table) (opening n (lent rows list) [] [])) }
+    ensures { Tells out before result (interviewed (tabled objects (shared table)) (opening n (lent (mutable rows) (mutable list)) [] [])) }
 {
     let opened = session_opening::open(n, 0, rows, list, &table[..0]);
     match opened {

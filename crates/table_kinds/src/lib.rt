@@ -1,10 +1,11 @@
 // The kinds of lines of a table file, and the number with which a missing one is refused. An object is 01's row, an attribute its
 // property.
+#![tactic(auto)]
 ghost use Rattle.std.specs.Prelude.{◌≡◌};
 ghost use Rattle.table_kinds.specs.Kinds.{absent};
 
 // The kinds of lines; a line of marks has one byte for each attribute.
-#[derive(Drop)]
+#[derive(Clone, Copy)]
 pub enum Kind {
     Letter,
     Title,

@@ -1,5 +1,6 @@
 // The layout of Burmeister's table file: its lines in order, and what an opened table keeps. An object is 01's row, an attribute its
 // property.
+#![tactic(auto)]
 ghost use Rattle.std.specs.Prelude.{◌≡◌};
 ghost use Rattle.table_layout.specs.Layout.{opened_from, opened_of};
 
@@ -8,7 +9,7 @@ use table_kinds::Kind;
 
 // What an opened table keeps beside its file: the counts, and where the names of each kind and the marks begin.
 #[repr(C)]
-#[derive(Drop)]
+#[derive(Clone, Copy)]
 pub struct Layout {
     pub objects: usize,
     pub attributes: usize,
@@ -26,7 +27,7 @@ impl Layout {
 pub const FILE_BYTES: usize = Layout::BYTES + 1;
 
 // What opening a table file finds.
-#[derive(Drop)]
+#[derive(Clone, Copy)]
 pub enum Opened {
     Found(Layout),
     Refused(session::Refusal),

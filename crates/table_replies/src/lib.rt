@@ -1,4 +1,6 @@
 // The table's reply to the question of an interview (01: the program), below the checks.
+#![tactic(auto)]
+ghost use Rattle.context.specs.Parts.{mutable, shared};
 ghost use Rattle.table_replies.specs.Reply.{Replies};
 
 use interview_replies::{Beaten, Interview};
@@ -14,7 +16,7 @@ pub fn reply(
     out: &mut [u8],
     at: usize,
 ) -> Beaten
-    ensures { Replies objects table interview rows list conclusion out at result }
+    ensures { Replies objects (shared table) interview (mutable rows) (mutable list) conclusion out at result }
 {
     let place = written_marks::first_refuting(table, objects, interview.current, conclusion);
     let whole = closures::smaller(objects, table.len() / 2);

@@ -1,4 +1,5 @@
 // The row (an object) of a line of marks: its two words.
+#![tactic(auto)]
 ghost use Rattle.std.specs.Prelude.{◌≡◌, ◌≤◌, length, take};
 ghost use Rattle.context.specs.Objects.{object};
 ghost use Rattle.session.specs.Limits.{most_attributes};
@@ -6,7 +7,7 @@ ghost use Rattle.table_bytes.specs.Bytes.{is_yes, is_no};
 ghost use Rattle.table_rows.specs.Rows.{bit_of, row_of};
 
 // The two words of a row.
-#[derive(Drop)]
+#[derive(Clone, Copy)]
 pub struct Row {
     pub yes: u64,
     pub no: u64,

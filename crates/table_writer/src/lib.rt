@@ -1,5 +1,7 @@
 // Writes a table file into a lent output: the text stands at its start, and every byte behind it is kept. An object is 01's row, an
 // attribute its property.
+#![tactic(auto)]
+ghost use Rattle.context.specs.Parts.{shared};
 ghost use Rattle.std.specs.Prelude.{◌≡◌, length};
 ghost use Rattle.text.specs.Page.{Puts};
 ghost use Rattle.table_text.specs.Table.{text_of};
@@ -34,7 +36,7 @@ fn put_table(n: usize, used: usize, rows: &[u64], names: &[u8], out: &mut [u8]) 
 // Refusal 30, or the text.
 fn write_named(n: usize, used: usize, rows: &[u64], names: &[u8], out: &mut [u8]) -> Written
     requires { RowsPass n used rows.now × NamesPass n used names.now }
-    ensures { Writes n used rows names out result }
+    ensures { Writes n used (shared rows) names out result }
 {
     let size = size_of_text(n, used, rows, names);
     if Layout::BYTES < size {
@@ -50,7 +52,7 @@ fn write_named(n: usize, used: usize, rows: &[u64], names: &[u8], out: &mut [u8]
 // Refusal 26, and then 30, or the text.
 fn write_rows(n: usize, used: usize, rows: &[u64], names: &[u8], out: &mut [u8]) -> Written
     requires { RowsPass n used rows.now }
-    ensures { Writes n used rows names out result }
+    ensures { Writes n used (shared rows) names out result }
 {
     let walked = table_walk::walk_lines(names, Walk::At(0), Kind::Name, used + n);
     match walked {
@@ -61,7 +63,7 @@ fn write_rows(n: usize, used: usize, rows: &[u64], names: &[u8], out: &mut [u8])
 
 // Writes n attributes, the rows in use of the row words, and the names lent as lines, as a table file: 1 to 5, 26, 30.
 pub fn write_table(n: usize, used: usize, rows: &[u64], names: &[u8], out: &mut [u8]) -> Written
-    ensures { Writes n used rows names out result }
+    ensures { Writes n used (shared rows) names out result }
 {
     let checked = row_checks::check_rows(n, used, rows);
     match checked {

@@ -2,7 +2,7 @@
 -- that writing is total; `Laws` proves that a text that fits stands there whole, behind what was there before.
 use Rattle.std.specs.Prelude.{◌≡◌, true, false, List, [], ◌∷◌, ℕ, ◌+◌, length, set, ltb}
 use denote.Triple.Both.{Both}
-use Rattle.std.specs.Borrow.{Bor}
+use Rattle.std.specs.Borrow.{Bor, MutBor}
 pub mod Laws
 
 -- a buffer, and the offset where the next byte goes
@@ -23,7 +23,11 @@ text p (b ∷ bs) = text (put p b) bs
 
 -- a lent buffer, as a call finds it and as it leaves it
 abbrev pub Buffer : Type 0
-Buffer = Both (Bor (List ℕ)) (Bor (List ℕ))
+Buffer = Both (MutBor (List ℕ)) (MutBor (List ℕ))
+
+-- lent bytes that a call reads
+abbrev pub Bytes : Type 0
+Bytes = Both (Bor (List ℕ)) (Bor (List ℕ))
 
 -- the call writes these bytes into the buffer, from the offset `at` to the offset `end`
 abbrev pub Puts : Buffer → ℕ → ℕ → List ℕ → Type 0

@@ -1,1 +1,2 @@
 // The walks by hand have no code: they stand in specs/.
+#![tactic(auto)]

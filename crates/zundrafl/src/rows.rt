@@ -1,4 +1,5 @@
 // Rows lent without a session, for C.
+ghost use Rattle.context.specs.Parts.{shared};
 ghost use Rattle.coded_nearly.specs.Listing.{ListsCoded};
 
 // The attributes outside the premise that more than so many per cent of the rows in use with the premise have.
@@ -11,7 +12,7 @@ pub extern "C" fn zundrafl_nearly(
     percent: u64,
     answer: &mut answer_words::Answer,
 )
-    ensures { ListsCoded n used rows premise percent answer.new }
+    ensures { ListsCoded n used (shared rows) premise percent answer.new }
 {
     let made = coded_nearly::list_nearly(n, used, rows, premise, percent);
     *answer = made;

@@ -1,4 +1,5 @@
 // The calls of a session for C. A call that only reads takes the record by `&`; the others store it where it changed.
+ghost use Rattle.context.specs.Parts.{mutable, shared};
 ghost use Rattle.implication.specs.Closure.{implication};
 ghost use Rattle.context.specs.Objects.{object};
 ghost use Rattle.machine.specs.Machine.{step as stepping, accept as accepting, reject as rejecting, follow, refute, test, file, fill};
@@ -17,7 +18,7 @@ pub extern "C" fn zundrafl_open_session(
     background: &[u64],
     answer: &mut answer_words::Answer,
 )
-    ensures { OpensOn n used session rows list background answer }
+    ensures { OpensOn n used (mutable session) (shared rows) (shared list) (shared background) answer }
 {
     let held = *session;
     let turn = coded_opening::open(held, n, used, rows, list, background);
@@ -36,7 +37,7 @@ pub extern "C" fn zundrafl_step(
     background: &[u64],
     answer: &mut answer_words::Answer,
 )
-    ensures { AnswersOn stepping session rows list background answer }
+    ensures { AnswersOn stepping (mutable session) (shared rows) (shared list) (shared background) answer }
 {
     let held = *session;
     let turn = coded_calls::step(held, rows, list, background);
@@ -55,7 +56,7 @@ pub extern "C" fn zundrafl_accept(
     background: &[u64],
     answer: &mut answer_words::Answer,
 )
-    ensures { AnswersOn accepting session rows list background answer }
+    ensures { AnswersOn accepting (mutable session) (shared rows) (mutable list) (shared background) answer }
 {
     let held = *session;
     let turn = coded_calls::accept(held, rows, list, background);
@@ -76,7 +77,7 @@ pub extern "C" fn zundrafl_reject(
     no: u64,
     answer: &mut answer_words::Answer,
 )
-    ensures { AnswersOn (rejecting (object yes no)) session rows list background answer }
+    ensures { AnswersOn (rejecting (object yes no)) (mutable session) (mutable rows) (shared list) (shared background) answer }
 {
     let held = *session;
     let turn = coded_calls::reject(held, rows, list, background, yes, no);
@@ -97,7 +98,7 @@ pub extern "C" fn zundrafl_follows(
     conclusion: u64,
     answer: &mut answer_words::Answer,
 )
-    ensures { AnswersOn (follow (implication premise conclusion)) session rows list background answer }
+    ensures { AnswersOn (follow (implication premise conclusion)) (shared session) (shared rows) (shared list) (shared background) answer }
 {
     *answer = coded_queries::follows(*session, rows, list, background, premise, conclusion);
 }
@@ -113,7 +114,7 @@ pub extern "C" fn zundrafl_refuted(
     conclusion: u64,
     answer: &mut answer_words::Answer,
 )
-    ensures { AnswersOn (refute (implication premise conclusion)) session rows list background answer }
+    ensures { AnswersOn (refute (implication premise conclusion)) (shared session) (shared rows) (shared list) (shared background) answer }
 {
     *answer = coded_queries::refuted(*session, rows, list, background, premise, conclusion);
 }
@@ -129,7 +130,7 @@ pub extern "C" fn zundrafl_test_row(
     no: u64,
     answer: &mut answer_words::Answer,
 )
-    ensures { AnswersOn (test (object yes no)) session rows list background answer }
+    ensures { AnswersOn (test (object yes no)) (shared session) (shared rows) (shared list) (shared background) answer }
 {
     *answer = coded_queries::test_row(*session, rows, list, background, yes, no);
 }
@@ -145,7 +146,7 @@ pub extern "C" fn zundrafl_file_row(
     no: u64,
     answer: &mut answer_words::Answer,
 )
-    ensures { AnswersOn (file (object yes no)) session rows list background answer }
+    ensures { AnswersOn (file (object yes no)) (mutable session) (mutable rows) (shared list) (shared background) answer }
 {
     let held = *session;
     let turn = coded_calls::file_row(held, rows, list, background, yes, no);
@@ -167,7 +168,7 @@ pub extern "C" fn zundrafl_fill_row(
     no: u64,
     answer: &mut answer_words::Answer,
 )
-    ensures { AnswersOn (fill row (object yes no)) session rows list background answer }
+    ensures { AnswersOn (fill row (object yes no)) (mutable session) (mutable rows) (shared list) (shared background) answer }
 {
     *answer = coded_calls::fill_row(*session, rows, list, background, row, yes, no);
 }
@@ -183,7 +184,7 @@ pub extern "C" fn zundrafl_replay(
     answers: &mut [u64],
     answer: &mut answer_words::Answer,
 )
-    ensures { ReplaysOn session rows list background calls answers answer }
+    ensures { ReplaysOn (mutable session) (mutable rows) (mutable list) (shared background) (shared calls) (mutable answers) answer }
 {
     let held = *session;
     let turn = coded_logs::replay_coded(held, rows, list, background, calls, answers);
@@ -206,7 +207,7 @@ pub extern "C" fn zundrafl_open_and_replay(
     answers: &mut [u64],
     answer: &mut answer_words::Answer,
 )
-    ensures { TakesUpOn n used session rows list background calls answers answer }
+    ensures { TakesUpOn n used (mutable session) (mutable rows) (mutable list) (shared background) (shared calls) (mutable answers) answer }
 {
     let held = *session;
     let turn = saved_interview::open_and_replay(

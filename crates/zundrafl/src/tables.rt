@@ -1,4 +1,5 @@
 // The table file for C. A call that only reads takes the layout by `&`; an opening stores it where it changed; writing needs none.
+ghost use Rattle.context.specs.Parts.{shared};
 ghost use Rattle.std.specs.Prelude.{◌≡◌};
 ghost use Rattle.table_layout.specs.Layout.{opened_of};
 ghost use Rattle.complete_tables.specs.Complete.{opened_complete};
@@ -91,7 +92,7 @@ pub extern "C" fn zundrafl_write_table(
     out: &mut [u8],
     answer: &mut answer_words::Answer,
 )
-    ensures { WritesCoded n used rows names out answer.new }
+    ensures { WritesCoded n used (shared rows) names out answer.new }
 {
     let made = coded_writing::write_table(n, used, rows, names, out);
     *answer = made;

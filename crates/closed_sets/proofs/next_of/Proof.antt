@@ -32,8 +32,8 @@ abbrev start : tie.In-loop invariant-loop decreases-loop → tie.Start invariant
 start c = let known = c.before.before in known.before.before.before
 
 -- the implications in force
-abbrev rules : tie.In-loop invariant-loop decreases-loop → List (Implication ℕ)
-rules c = let a = (start c).args in in_force a.background.now a.list.now a.count
+abbrev in_use : tie.In-loop invariant-loop decreases-loop → List (Implication ℕ)
+in_use c = let a = (start c).args in in_force a.background.now a.list.now a.count
 
 abbrev set : tie.In-loop invariant-loop decreases-loop → ℕ
 set c = (start c).args.set
@@ -55,10 +55,10 @@ cut c = c.before.before
 -- ---- a turn
 
 -- what is left of the search is what is to be returned
-left : (c : tie.In-loop invariant-loop decreases-loop) → next_below (rules c) (set c) (suc (at c)) ≡ next (rules c) (min (start c).args.n 64) (set c)
+left : (c : tie.In-loop invariant-loop decreases-loop) → next_below (in_use c) (set c) (suc (at c)) ≡ next (in_use c) (min (start c).args.n 64) (set c)
 left c =
     let e : suc (at c) ≡ c.before.loop.j = omega (arith, c.loop-test.true) in
-    ap (next_below (rules c) (set c)) e ∙ c.before.loop.invariant.1
+    ap (next_below (in_use c) (set c)) e ∙ c.before.loop.invariant.1
 
 -- the attributes whose gain gives the candidate up
 stop : (c : tie.After-close-until invariant-loop decreases-loop) → (cut c).difference.result ≡ without (full (at (turn c))) (set (turn c))
@@ -69,14 +69,14 @@ stop c =
 
 -- what the call of close_until gives
 given : (c : tie.After-close-until invariant-loop decreases-loop)
-    → let d = turn c in CloseUntil (candidate (rules d) (set d) (at d)) (without (full (at d)) (set d)) c.close-until.result
+    → let d = turn c in CloseUntil (candidate (in_use d) (set d) (at d)) (without (full (at d)) (set d)) c.close-until.result
 given c =
     let d = turn c in
     let l : suc (at d) ≤ 64 = omega (arith, d.loop-test.taken, d.before.loop.inv.0) in
     let e : c.before.raised.result ≡ raise (set d) (at d) =
     c.before.raised.ensures ∙ mod-eq_of_lt (lt_of_lt_of_le (raise-lt (set d) (at d)) (pow_mono l)) in
-    subst (λ s. CloseUntil (closure (rules d) s) (without (full (at d)) (set d)) c.close-until.result) e
-    (subst (λ s. CloseUntil (closure (rules d) c.before.raised.result) s c.close-until.result) (stop c) c.close-until.ensures)
+    subst (λ s. CloseUntil (closure (in_use d) s) (without (full (at d)) (set d)) c.close-until.result) e
+    (subst (λ s. CloseUntil (closure (in_use d) c.before.raised.result) s c.close-until.result) (stop c) c.close-until.ensures)
 
 loop-holds : tie.Need-loop-init invariant-loop decreases-loop
 loop-holds c = (omega (arith, c.smaller.ensures), ap (next_below _ _) c.smaller.ensures)
@@ -85,7 +85,7 @@ returns : tie.Need-returns invariant-loop decreases-loop
 returns c =
     let g = c.before in
     let d = turn g in
-    sym (next-taken (rules d) (set d) (at d) (given g) (sym (tested g).before.digit-of.ensures ∙ (tested g).if1.true)
+    sym (next-taken (in_use d) (set d) (at d) (given g) (sym (tested g).before.digit-of.ensures ∙ (tested g).if1.true)
     (ap (bit_and g.close-until.result) (sym (stop g)) ∙ c.if2.true)) ∙ left d
 
 loop-again : tie.Need-loop-preserved invariant-loop decreases-loop
@@ -93,14 +93,14 @@ loop-again c =
     let g = c.before in
     let d = turn g in (
       omega arith,
-      sym (next-left (rules d) (set d) (at d) (given g) (λ e. c.if2.false (ap (bit_and g.close-until.result) (stop g) ∙ e))) ∙ left d,
+      sym (next-left (in_use d) (set d) (at d) (given g) (λ e. c.if2.false (ap (bit_and g.close-until.result) (stop g) ∙ e))) ∙ left d,
     )
 
 loop-again-2 : tie.Need-loop-preserved-2 invariant-loop decreases-loop
 loop-again-2 c =
     let d = c.before.before in (
       omega arith,
-      sym (next-passed (rules d) (set d) (at d) (λ f. c.if1.false (c.before.digit-of.ensures ∙ f.lacks))) ∙ left d,
+      sym (next-passed (in_use d) (set d) (at d) (λ f. c.if1.false (c.before.digit-of.ensures ∙ f.lacks))) ∙ left d,
     )
 
 returns-2 : tie.Need-returns-2 invariant-loop decreases-loop

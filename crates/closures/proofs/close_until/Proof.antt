@@ -20,8 +20,8 @@ abbrev decreases-loop : tie.decreases-loop
 decreases-loop background list count set stop b l s₀ s = 2 ^ 64 - s
 
 -- the implications that a round goes over
-abbrev rules : tie.At-loop invariant-loop decreases-loop → List (Implication ℕ)
-rules c =
+abbrev in_use : tie.At-loop invariant-loop decreases-loop → List (Implication ℕ)
+in_use c =
     let a = c.before.before.before.before.args in
     in_force a.background.now a.list.now c.before.smaller.result
 
@@ -30,7 +30,7 @@ stop c = c.before.before.before.before.args.stop
 
 -- both calls together are one pass over both lists
 round : (c : tie.After-pass-until2 invariant-loop decreases-loop)
-    → let at = c.before.before.before in PassUntil (rules at) at.loop.s (stop at) c.pass-until2.result
+    → let at = c.before.before.before in PassUntil (in_use at) at.loop.s (stop at) c.pass-until2.result
 round c = pass-both _ _ c.before.before.pass-until.ensures c.pass-until2.ensures
 
 loop-holds : tie.Need-loop-init invariant-loop decreases-loop
@@ -45,12 +45,12 @@ returns : tie.Need-returns invariant-loop decreases-loop
 returns c =
     let d = c.before in
     let at = d.before in
-    rw (← at.loop.invariant.1) (close-met (rules at) (pass-both _ _ d.pass-until.ensures (pass-met _ _ _ c.if1.true)) c.if1.true)
+    rw (← at.loop.invariant.1) (close-met (in_use at) (pass-both _ _ d.pass-until.ensures (pass-met _ _ _ c.if1.true)) c.if1.true)
 
 returns-2 : tie.Need-returns-2 invariant-loop decreases-loop
 returns-2 c =
     let at = c.before.before.before.before in
-    rw (← at.loop.invariant.1) (close-end (rules at) (round c.before) c.if2.true)
+    rw (← at.loop.invariant.1) (close-end (in_use at) (round c.before) c.if2.true)
 
 -- the loop where a round is behind it that has changed the set
 abbrev turn : tie.Else2 invariant-loop decreases-loop → tie.At-loop invariant-loop decreases-loop
@@ -59,17 +59,17 @@ turn c = c.before.before.before.before
 returns-3 : tie.Need-returns-3 invariant-loop decreases-loop
 returns-3 c =
     let at = turn c.before in
-    rw (← at.loop.inv.1) (close-met (rules at) (round c.before.before) c.if3.true)
+    rw (← at.loop.inv.1) (close-met (in_use at) (round c.before.before) c.if3.true)
 
 loop-less : tie.Need-loop-smaller invariant-loop decreases-loop
 loop-less c =
     let at = turn c.before in
-    omega (arith, (round c.before.before).whole c.if3.false, pass_le (rules at) at.loop.s, at.loop.inv.0, c.before.if2.false)
+    omega (arith, (round c.before.before).whole c.if3.false, pass_le (in_use at) at.loop.s, at.loop.inv.0, c.before.if2.false)
 
 loop-again : tie.Need-loop-preserved invariant-loop decreases-loop
 loop-again c =
     let at = turn c.before in
-    (search rules, closure-kept (rules at) (round c.before.before) ∙ at.loop.inv.1)
+    (search rules, closure-kept (in_use at) (round c.before.before) ∙ at.loop.inv.1)
 
 pub close-until-spec : {M : Type 1} → statement M
 close-until-spec =

@@ -21,8 +21,8 @@ invariant-loop background list count premise conclusion set s₀ s =
 abbrev decreases-loop : tie.decreases-loop
 decreases-loop background list count premise conclusion set s₀ s = 2 ^ 64 - s
 
-abbrev rules : tie.After-closure-of invariant-loop decreases-loop → List (Implication ℕ)
-rules c =
+abbrev in_use : tie.After-closure-of invariant-loop decreases-loop → List (Implication ℕ)
+in_use c =
     let a = c.before.before.before.before.args in
     in_force a.background.now a.list.now a.count
 
@@ -39,7 +39,7 @@ returns c =
     let d = c.before in
     let s = d.before.loop.s in
     d.closure-of.ensures
-    ∙ sym (one-more-end (rules d) (more d) s (λ h. absurd (c.if1.true (ap (bit_and (more d).premise) d.closure-of.ensures ∙ sub→and h))))
+    ∙ sym (one-more-end (in_use d) (more d) s (λ h. absurd (c.if1.true (ap (bit_and (more d).premise) d.closure-of.ensures ∙ sub→and h))))
     ∙ d.before.loop.invariant.1
 
 returns-2 : tie.Need-returns-2 invariant-loop decreases-loop
@@ -47,7 +47,7 @@ returns-2 c =
     let d = c.before.before in
     let s = d.before.loop.s in
     d.closure-of.ensures
-    ∙ sym (one-more-end (rules d) (more d) s (λ h. and→sub (more d).conclusion (closure (rules d) s) (sym (ap (bit_and (more d).conclusion) d.closure-of.ensures) ∙ c.if2.true)))
+    ∙ sym (one-more-end (in_use d) (more d) s (λ h. and→sub (more d).conclusion (closure (in_use d) s) (sym (ap (bit_and (more d).conclusion) d.closure-of.ensures) ∙ c.if2.true)))
     ∙ d.before.loop.invariant.1
 
 -- the set grows
@@ -57,7 +57,7 @@ grows c =
     let s = d.before.loop.s in
     let t = d.closure-of.result in
     let new : t ≡ bit_or t (more d).conclusion → ⊥ = λ e. c.if2.false (sub→and (rw e (or_right t (more d).conclusion))) in
-    omega (arith, le-or t (more d).conclusion, sub-le (closure-least (rules d) s).above, d.closure-of.ensures)
+    omega (arith, le-or t (more d).conclusion, sub-le (closure-least (in_use d) s).above, d.closure-of.ensures)
 
 loop-less : tie.Need-loop-smaller invariant-loop decreases-loop
 loop-less c = omega (arith, grows c, c.before.before.before.loop.invariant.0)
@@ -67,8 +67,8 @@ loop-again c =
     let d = c.before.before in
     let s = d.before.loop.s in (
       or_lt 64 d.closure-of.result (more d).conclusion (search rules) (search rules),
-      ap (λ t. closure (rules d ++ (more d ∷ [])) (bit_or t (more d).conclusion)) d.closure-of.ensures
-          ∙ one-more-again (rules d) (more d) s (and→sub _ _ (sym (ap (bit_and (more d).premise) d.closure-of.ensures) ∙ c.before.if1.false))
+      ap (λ t. closure (in_use d ++ (more d ∷ [])) (bit_or t (more d).conclusion)) d.closure-of.ensures
+          ∙ one-more-again (in_use d) (more d) s (and→sub _ _ (sym (ap (bit_and (more d).premise) d.closure-of.ensures) ∙ c.before.if1.false))
           ∙ d.before.loop.invariant.1,
     )
 

@@ -135,10 +135,10 @@ module _ (s t : ℕ) (h : Sub s t) where
       go false e true f k = omega arith
       go false e false f k = omega arith
 
-  missing-less : (rs : List (Implication ℕ)) (r : Implication ℕ) → Memᴰ r rs → (Sub r.conclusion s → ⊥) → Sub r.conclusion t
+  missing-less : (r : Implication ℕ) (rs : List (Implication ℕ)) → Memᴰ r rs → (Sub r.conclusion s → ⊥) → Sub r.conclusion t
       → missing rs t < missing rs s
   unfolding missing
-  missing-less rs r (Memᴰ.head {x = x} {xs = xs} e) n y = go (inside x.conclusion s) refl (inside x.conclusion t) refl (missing-mono xs)
+  missing-less r rs (Memᴰ.head {x = x} {xs = xs} e) n y = go (inside x.conclusion s) refl (inside x.conclusion t) refl (missing-mono xs)
     where
       go : (a : Bool) → inside x.conclusion s ≡ a → (b : Bool) → inside x.conclusion t ≡ b → missing xs t ≤ missing xs s
           → elim b as (λ x. ℕ) [ true ↦ missing xs t | false ↦ suc (missing xs t) ]
@@ -146,8 +146,8 @@ module _ (s t : ℕ) (h : Sub s t) where
       go true p b q k = absurd (n (rw e (inside-sub _ _ p)))
       go false p true q k = omega arith
       go false p false q k = absurd (outside-sub _ _ q (rw (← e) y))
-  missing-less rs r (Memᴰ.tail {x = x} {xs = xs} m) n y =
-      go (inside x.conclusion s) refl (inside x.conclusion t) refl (missing-less xs r m n y)
+  missing-less r rs (Memᴰ.tail {x = x} {xs = xs} m) n y =
+      go (inside x.conclusion s) refl (inside x.conclusion t) refl (missing-less r xs m n y)
     where
       go : (a : Bool) → inside x.conclusion s ≡ a → (b : Bool) → inside x.conclusion t ≡ b → missing xs t < missing xs s
           → elim b as (λ x. ℕ) [ true ↦ missing xs t | false ↦ suc (missing xs t) ]
@@ -158,7 +158,7 @@ module _ (s t : ℕ) (h : Sub s t) where
       go false p false q k = omega arith
 
 pass-fewer : (rs : List (Implication ℕ)) (s : ℕ) → (pass rs s ≡ s → ⊥) → missing rs (pass rs s) < missing rs s
-pass-fewer rs s n = let t = pass-new rs s n in missing-less s (pass rs s) (pass-above rs s) rs t.0 t.1 t.2 t.3
+pass-fewer rs s n = let t = pass-new rs s n in missing-less s (pass rs s) (pass-above rs s) t.0 rs t.1 t.2 t.3
 
 -- ---- the closure
 

@@ -31,16 +31,16 @@ abbrev state : tie.After-first-contradiction → State
 state c = let a = (start c).args in state_of a.session a.rows.now a.list.now a.background.now
 
 -- the rules in force
-abbrev rules : tie.After-first-contradiction → List (Implication ℕ)
-rules c = let a = (start c).args in in_force a.background.now a.list.now a.session.rules
+abbrev in_use : tie.After-first-contradiction → List (Implication ℕ)
+in_use c = let a = (start c).args in in_force a.background.now a.list.now a.session.rules
 
 -- the rows in use
 abbrev used : tie.After-first-contradiction → List Object
 used c = let a = (start c).args in objects_of a.session.rows a.rows.now
 
 -- what the first search gives: the empty implication changes nothing
-row-lowest : (c : tie.After-first-contradiction) → c.first-contradiction.result ≡ lowest (contradicts (rules c)) (used c)
-row-lowest c = c.first-contradiction.ensures ∙ lowest-idle (rules c) (used c)
+row-lowest : (c : tie.After-first-contradiction) → c.first-contradiction.result ≡ lowest (contradicts (in_use c)) (used c)
+row-lowest c = c.first-contradiction.ensures ∙ lowest-idle (in_use c) (used c)
 
 -- where no place is the lowest, no row marks an attribute both ways
 no-double : (c : tie.After-first-contradiction) → (start c).args.session.rows ≤ lowest marked_twice (used c) → anywhere marked_twice (used c) ≡ false
@@ -57,7 +57,7 @@ within : (c : tie.After-smaller) → (first c).first-contradiction.result ≤ c.
 within c =
     let d = first c in
     let a = (start d).args in
-    let h = contradicting-whole (rules d) a.session.rows a.rows.now (omega (arith, row-lowest d)) in
+    let h = contradicting-whole (in_use d) a.session.rows a.rows.now (omega (arith, row-lowest d)) in
     omega (arith, row-lowest d, c.smaller.ensures)
 
 abbrev sized : tie.After-first-double → tie.After-first-contradiction
@@ -68,17 +68,17 @@ double-lowest : (c : tie.After-first-double)
 double-lowest c =
     let d = sized c in
     let a = (start d).args in
-    double-found (rules d) a.session.rows a.rows.now (row-lowest d) (omega arith) c.before.smaller.ensures c.first-double.ensures
+    double-found (in_use d) a.session.rows a.rows.now (row-lowest d) (omega arith) c.before.smaller.ensures c.first-double.ensures
 
 returns : tie.Need-returns
 unfolding session_checks
 returns c asked =
     let d = c.before in
     let a = (start d).args in
-    let none = none-double (rules d) a.session.rows a.rows.now (omega (arith, row-lowest d)) in
+    let none = none-double (in_use d) a.session.rows a.rows.now (omega (arith, row-lowest d)) in
     sym (none-failing _ (
       no-double d none,
-      (anywhere-none (contradicts (rules d)) object a.rows.now a.session.rows (omega (arith, row-lowest d)), tt),
+      (anywhere-none (contradicts (in_use d)) object a.rows.now a.session.rows (omega (arith, row-lowest d)), tt),
     ))
 
 first-double-requires : tie.Need-first-double-requires
@@ -88,7 +88,7 @@ returns-2 : tie.Need-returns-2
 returns-2 c asked =
     let d = c.before.before in
     let a = (start (sized d)).args in
-    let is = double-whole (rules (sized d)) a.session.rows a.rows.now (omega (arith, double-lowest d, d.before.smaller.ensures)) in
+    let is = double-whole (in_use (sized d)) a.session.rows a.rows.now (omega (arith, double-lowest d, d.before.smaller.ensures)) in
     c.refused.ensures ∙ ap (failed 5) (double-lowest d ∙ sym is)
     ∙ sym (five (state (sized d)) asked
     (anywhere-at marked_twice object a.rows.now a.session.rows (omega (arith, is, double-lowest d, d.before.smaller.ensures))))
@@ -98,10 +98,10 @@ returns-3 c asked =
     let e = c.before.before in
     let d = sized e in
     let a = (start d).args in
-    let none = double-none (rules d) a.session.rows a.rows.now (omega (arith, double-lowest e, e.before.smaller.ensures)) in
+    let none = double-none (in_use d) a.session.rows a.rows.now (omega (arith, double-lowest e, e.before.smaller.ensures)) in
     c.refused2.ensures ∙ ap (failed 6) (row-lowest d)
     ∙ sym (six (state d) asked (no-double d none)
-    (anywhere-at (contradicts (rules d)) object a.rows.now a.session.rows (omega (arith, row-lowest d))))
+    (anywhere-at (contradicts (in_use d)) object a.rows.now a.session.rows (omega (arith, row-lowest d))))
 
 pub check-marks-spec : {M : Type 1} → statement M
 check-marks-spec =
