@@ -54,7 +54,7 @@ def arguments(text):
 
 class Places:
     def __init__(self, names):
-        self.new, self.parent, self.step, self.own, self.up, self.arm = {}, {}, {}, {}, {}, {}
+        self.new, self.parent, self.step, self.own, self.up, self.arm, self.callee = {}, {}, {}, {}, {}, {}, {}
         order = [p[0] for p in names["places"]]
         for i, (old, parent, (old_step, new_step), _, _) in enumerate(names["places"]):
             self.new[old] = names["places_by_name"][i]
@@ -63,6 +63,7 @@ class Places:
             arm = names["arms"][i] if i < len(names["arms"]) else None
             self.arm[old] = arm
             self.step[old] = new_step if old_step else None
+            self.callee[old] = names["places"][i][3]
             up, count = old, arm[1] if arm else 1
             for _ in range(count):
                 up = self.parent.get(up)
@@ -82,6 +83,9 @@ class Places:
         return n if frm == to else None
 
     def field(self, place, field, rest):
+        return self.exact(place, field, rest) or (self.exact(place, field[:-4], rest) if field[-4:] in ("-lem", "_lem") else None)
+
+    def exact(self, place, field, rest):
         """The path of a step's field, seen from a place: the new path, and how many of the fields behind it are taken up in it."""
         # an arm at or above the place takes up the steps of the places in it
         p = place
@@ -90,7 +94,7 @@ class Places:
             if arm:
                 for new, old_step, path in sorted(arm[2], key=lambda e: -len(e[2])):
                     if alike(old_step) == alike(field) and rest[: len(path)] == path:
-                        return [arm[0] if not self.suffixed(p) else self.suffixed(p), new], len(path)
+                        return [arm[0], new], len(path)
             p = self.up[p] if arm else self.parent[p]
         p = place
         while p is not None:
@@ -98,11 +102,6 @@ class Places:
                 return [self.step[p]], 0
             p = self.parent[p]
         return None
-
-    def suffixed(self, place):
-        """An arm's field goes by its place, In-V or In-V-2."""
-        new = self.new[place]
-        return "in" + new[2:] if new.startswith("In") else None
 
 
 class Turner:
@@ -161,9 +160,12 @@ class Turner:
             if m and self.places.named(m.group(2)) and self.places.named(m.group(4)):
                 self.maps[m.group(1)] = self.places.named(m.group(4))
         for b in blocks:
-            out.append(self.block(b))
+            new = self.block(b)
+            if b and not new:
+                while out and out[-1].startswith("--"):
+                    out.pop()
+            out.append(new)
         text = self.listed("".join(out))
-        text = re.sub(r"(?m)^-- [Tt]he places?:[^\n]*\n(?:-- [^\n]*\n)*(?=\n)", "", text)
         text = re.sub(r"\n{3,}", "\n\n", text)
         function = os.path.basename(os.path.dirname(self.path))
         for name in re.findall(r"(?m)^pub (" + WORD + r") : \{M : Type 1\}", text):
@@ -219,14 +221,7 @@ class Turner:
         sig = getattr(self, "signatures", {})
         if name and re.match(r"(?:abbrev |pub )*" + re.escape(name) + r" :", b):
             # a lemma's signature: its places, by position
-            kinds = []
-            body = b.split(" :", 1)[1]
-            for m in re.finditer(r"\((" + WORD + r") : ([^()]*(?:\([^()]*\)[^()]*)*)\)\s*→|(?<=[:→] )tie\.(" + WORD + r")[^→\n]*→", " :" + body):
-                if m.group(1):
-                    t = re.match(r"tie\.(" + WORD + ")", m.group(2))
-                    kinds.append(self.places.named(t.group(1)) if t else None)
-                else:
-                    kinds.append(self.places.named(m.group(3)))
+            kinds = self.kinds(b.split(" :", 1)[1])
             self.signatures = {**sig, name: kinds}
             for m in re.finditer(r"\((" + WORD + r") : tie\.(" + WORD + ")", b):
                 p = self.places.named(m.group(2))
@@ -243,6 +238,38 @@ class Turner:
             b,
         )
         return self.terms(b, env)
+
+    def kinds(self, text):
+        """The place that each explicit parameter of a signature is, or None."""
+        tokens, i, kinds = TOKEN.findall(re.split(r"(?m)^\S", text)[0]), 0, []
+        while i < len(tokens):
+            t = tokens[i]
+            if t.isspace() or t == "→":
+                i += 1
+            elif t == "let":
+                break
+            elif t in "({":
+                depth, j = 0, i
+                while True:
+                    depth += (tokens[j] in ("(", "{")) - (tokens[j] in (")", "}"))
+                    j += 1
+                    if depth == 0 or j == len(tokens):
+                        break
+                inner = "".join(tokens[i + 1 : j - 1])
+                m = re.match(r"([^:]+) : (.*)", inner, re.S)
+                if m and t == "(":
+                    place = re.match(r"tie\.(" + WORD + ")", m.group(2).strip())
+                    kinds += [self.places.named(place.group(1)) if place else None] * len(m.group(1).split())
+                elif not m:
+                    j = next((k for k in range(j, len(tokens)) if tokens[k] == "→"), len(tokens))
+                    kinds.append(None)
+                i = j
+            else:
+                j = next((k for k in range(i, len(tokens)) if tokens[k] == "→"), len(tokens))
+                place = re.match(r"tie\.(" + WORD + ")", "".join(tokens[i:j]).strip())
+                kinds.append(self.places.named(place.group(1)) if place else None)
+                i = j
+        return kinds
 
     def terms(self, text, env):
         tokens = TOKEN.findall(text)
@@ -279,12 +306,26 @@ class Turner:
                             i += 1
                         continue
                     env.pop(var, None)
+                    called = self.step_of(tokens[k + 1 : end], env)
+                    if called:
+                        env["call " + var] = called
+                    else:
+                        env.pop("call " + var, None)
                 out.append(t)
                 i += 1
                 continue
             if re.fullmatch(WORD, t) and t in env and not (out and out[-1].endswith(".")):
                 text, i = self.projected(env[t], tokens, i + 1)
                 out.append(text)
+                continue
+            if re.fullmatch(WORD, t) and "call " + t in env:
+                fields, j = [], i + 1
+                while j < len(tokens) and tokens[j].startswith(".") and len(tokens[j]) > 1:
+                    fields.append(tokens[j][1:])
+                    j += 1
+                fields = self.last_value(env["call " + t], fields)
+                out.append(".".join([t] + fields))
+                i = j
                 continue
             if t == "(":
                 close = self.closing(tokens, i)
@@ -361,6 +402,14 @@ class Turner:
             found = (found[0], parent) if parent else None
         return found
 
+    def step_of(self, tokens, env):
+        """The function that is called in the step that a term is, or None."""
+        tokens = [t for t in tokens if not t.isspace()]
+        if len(tokens) < 2 or not tokens[-1].startswith("."):
+            return None
+        place = self.place(tokens[:-1], env)
+        return self.callee(place[1], tokens[-1][1:]) if place else None
+
     def projected(self, place, tokens, i):
         """A place with the fields that follow."""
         var, at = place
@@ -383,12 +432,34 @@ class Turner:
             rest = rest[used:]
             if len(path) == 1 or used or True:
                 fields = path + rest
+        if found and len(path) == 1:
+            fields = path + self.last_value(self.callee(at, first), fields[1:])
         words = {"inv": "invariant", "taken": "true", "left": "false", "last": "new"}
         if found and len(fields) > 1:
             k = len(path)
             if k < len(fields) and fields[k] in words and not (fields[k] == "left" and path[0].startswith("loop") and not path[0].endswith("-test")):
                 fields[k] = words[fields[k]]
         return ".".join([var] + fields), i
+
+    def callee(self, at, field):
+        p = at
+        while p is not None:
+            if self.places.own[p] and alike(self.places.own[p]) == alike(field):
+                return self.places.callee.get(p)
+            p = self.places.parent[p]
+        return None
+
+    def last_value(self, callee, fields):
+        """A last value goes by the parameter's name, where it went by its place."""
+        params = self.names["params"].get(callee)
+        if not params or not fields or fields[0] not in ("new", "last"):
+            return fields
+        k = 1
+        while k < len(fields) and fields[k] == "1":
+            k += 1
+        if k < len(fields) and fields[k] == "0" and k - 1 < len(params):
+            return ["new", params[k - 1], *fields[k + 1 :]]
+        return fields
 
     def way(self, var, at):
         root = self.roots.get(var)
@@ -412,6 +483,36 @@ def source_names(crate):
             for w in re.findall(r"[a-z]\w*_\w*", open(os.path.join(folder, f), encoding="utf-8").read()):
                 found.setdefault(alike(w), w)
     return found
+
+
+def denied(text):
+    """A test of `!x` says what the other outcome of a test of `x` says, so what turned one into the other is left out."""
+    tokens, out, i = TOKEN.findall(text), [], 0
+
+    def atom(i):
+        while i < len(tokens) and tokens[i].isspace():
+            i += 1
+        start, depth = i, 0
+        while i < len(tokens):
+            depth += (tokens[i] == "(") - (tokens[i] == ")")
+            i += 1
+            if depth == 0 and not (i < len(tokens) and tokens[i].startswith(".") and len(tokens[i]) > 1):
+                break
+        return start, i
+
+    uses = False
+    while i < len(tokens):
+        line = "".join(out).rsplit("\n", 1)[-1]
+        if re.fullmatch(r"not[-_](true|false)", tokens[i]) and not line.startswith("use "):
+            _, end = atom(i + 1)
+            start, last = atom(end)
+            out.append(denied("".join(tokens[start:last])))
+            i = last
+            uses = True
+            continue
+        out.append(tokens[i])
+        i += 1
+    return "".join(out)
 
 
 def spelled(text, turner, sources):
@@ -453,8 +554,7 @@ def main(argv):
 
         turner.terms = rooted
         text = turner.run()
-        text = re.sub(r"\(not[-_](?:true|false) _ (\([^()]*\)|[^\s()]+)\)", r"\1", text)
-        text = re.sub(r"(?<![\w-])not[-_](?:true|false) _ (\([^()]*\)|[^\s()]+)", r"\1", text)
+        text = denied(text)
         text = spelled(text, turner, sources)
         text = re.sub(r"\.inv(?![-_\w])", ".invariant", text)
         with open(path, "w", encoding="utf-8") as f:

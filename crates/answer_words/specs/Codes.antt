@@ -7,7 +7,6 @@ use Rattle.session.specs.Refusals.{refusal}
 use Rattle.implication.specs.Closure.{implication}
 use Rattle.machine.specs.Machine.{Answer, finished, moved, asked, taken, followed, refuted, unrefuted, refuting, refused, Opening, opened, rejected}
 use Rattle.answer_words.specs.declared.Answer.{Answer as Coded}
-pub mod Laws
 
 abbrev pub coded : ℕ → ℕ → ℕ → Coded
 coded c a b = record { code = c; first = a; second = b }

@@ -2,9 +2,6 @@
 -- differ; report 001, section 2.1), and where the search for the next closed set starts.
 use Rattle.std.specs.Prelude.{◌≡◌, ℕ, ◌+◌, ◌%◌, ◌^◌, ◌<◌}
 use Rattle.attribute_set.specs.Sets.{digit, In}
-pub mod Laws
-pub mod Cases
-pub mod Rank
 
 -- a is earlier than b: b holds the smallest attribute in which they differ
 pub record Before (a b : ℕ) : Type 0 where

@@ -2,4 +2,3 @@ pub mod Sets
 pub mod Lectic
 pub mod Passing
 pub mod Smallest
-pub mod Words

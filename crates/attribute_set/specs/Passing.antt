@@ -1,6 +1,5 @@
 -- The set of the attributes that pass a test, among the first n.
 use Rattle.std.specs.Prelude.{Bool, true, false, ℕ, zero, suc, ◌+◌, ◌^◌}
-pub mod Laws
 
 -- the attributes below n that pass a test
 unfoldable pub passing : (ℕ → Bool) → ℕ → ℕ

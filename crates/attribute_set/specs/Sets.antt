@@ -3,7 +3,6 @@
 -- Union is the library's `bit_or` and meet its `bit_and`; `Laws` proves what each definition says of members.
 use Rattle.std.specs.Prelude.{◌≡◌, Bool, not, ℕ, ◌-◌, ◌/◌, ◌%◌, ◌^◌, eqb}
 use Rattle.std.specs.Int.Bits.{bit_and}
-pub mod Laws
 
 -- bit i of the word w: 1 where attribute i is a member, else 0
 abbrev pub digit : ℕ → ℕ → ℕ

@@ -1,7 +1,6 @@
 -- The smallest member of a set, alone in a set: how the members of a set are taken one after the other.
 use Rattle.std.specs.Prelude.{◌≡◌, ℕ, ◌^◌, ◌<◌}
 use Rattle.attribute_set.specs.Sets.{digit, In}
-pub mod Laws
 
 -- r holds the smallest member of x and nothing else; it is empty where x is
 pub record Smallest (x r : ℕ) : Type 0 where

@@ -12,8 +12,6 @@ use Rattle.answer_words.specs.declared.Answer.{Answer as Coded}
 use Rattle.logged_calls.specs.Kinds.{call_of}
 use Rattle.call_logs.specs.declared.Log.{Log}
 use Rattle.call_logs.specs.declared.Log.TheVariants.{Replayed, Short}
-pub mod Laws
-pub mod Loop
 
 -- a log: the first n calls of a slice of words
 unfoldable pub calls_of : ℕ → List ℕ → List (Option Call)

@@ -9,7 +9,6 @@ use Rattle.machine.specs.Calls.{Words, state_of, rows_by, changes}
 use Rattle.session.specs.declared.Session.{Session}
 use Rattle.session_replies.specs.declared.Replied.{Replied}
 use Rattle.session_replies.specs.Answers.{reply_answer}
-pub mod Laws
 
 -- refused by the first of 9, 11 and 12 that fails; else one row more
 unfoldable pub file_checked : State → Object → Turn

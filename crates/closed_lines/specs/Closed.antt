@@ -2,7 +2,6 @@
 use Rattle.std.specs.Prelude.{List, [], ◌∷◌, ◌++◌, ℕ, ◌+◌, length, take}
 use Rattle.table_lines.specs.Lines.{line_feed}
 use Rattle.table_lines.specs.Pieces.{lines_of}
-pub mod Laws
 
 -- lines, each closed by a line feed
 unfoldable pub closed : List (List ℕ) → List ℕ

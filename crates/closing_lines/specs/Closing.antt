@@ -2,7 +2,6 @@
 use Rattle.std.specs.Prelude.{List, ◌∷◌, ◌++◌, ℕ}
 use Rattle.session.specs.declared.Refusal.{Refusal}
 use Rattle.text.specs.Text.{number_text, space, newline}
-pub mod Laws
 
 -- `END`, rules, rows in use, changes of the current set
 abbrev pub end_line : ℕ → ℕ → ℕ → List ℕ

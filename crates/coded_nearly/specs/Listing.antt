@@ -7,7 +7,6 @@ use Rattle.answer_words.specs.Codes.{coded}
 use Rattle.nearly_listing.specs.declared.Nearly.{Nearly}
 use Rattle.nearly_listing.specs.declared.Nearly.TheVariants.{Listed, Refused}
 use Rattle.nearly_listing.specs.Listing.{listing}
-pub mod Laws
 
 abbrev pub code_of_nearly : Nearly → Coded
 code_of_nearly (Listed set) = coded 103 set 0

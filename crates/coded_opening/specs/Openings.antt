@@ -5,7 +5,6 @@ use Rattle.machine.specs.Machine.{Call, Opening, opened, rejected}
 use Rattle.machine.specs.Calls.{state_of, Words, Record, Made, opening_from}
 use Rattle.answer_words.specs.declared.Answer.{Answer as Coded}
 use Rattle.answer_words.specs.Codes.{code_of, code_of_opening, is_opened, LentAnswer}
-pub mod Laws
 
 -- the record after an opening: with the lent words it holds the opened state; refused, it is the one that was given
 abbrev pub OpeningLeaves : Session → Session → List ℕ → List ℕ → List ℕ → Opening → Type 0

@@ -10,7 +10,6 @@ use Rattle.table_layout.specs.declared.Opened.{Opened}
 use Rattle.table_layout.specs.declared.Opened.TheVariants.{Found, Refused}
 use Rattle.mark_reading.specs.Marks.{reading_as, words_of_rows}
 use Rattle.name_spans.specs.declared.Span.{Span}
-pub mod Laws
 
 abbrev pub code_of_opened : Opened → Coded
 code_of_opened (Found l) = coded 103 0 0

@@ -8,7 +8,6 @@ use Rattle.answer_words.specs.Codes.{coded}
 use Rattle.table_writing.specs.declared.Written.{Written}
 use Rattle.table_writing.specs.declared.Written.TheVariants.{Bytes, Refused}
 use Rattle.table_writing.specs.Writing.{Writes}
-pub mod Laws
 
 abbrev pub code_of_written : Written → Coded
 code_of_written (Bytes size) = coded 103 size 0

@@ -8,7 +8,6 @@ use Rattle.table_layout.specs.Layout.{opened_of}
 use Rattle.table_layout.specs.declared.Layout.{Layout}
 use Rattle.table_layout.specs.declared.Opened.{Opened}
 use Rattle.table_layout.specs.declared.Opened.TheVariants.{Found, Refused}
-pub mod Laws
 
 -- of count lines of marks from an offset on, the first with an unknown mark: 29 and its offset
 unfoldable pub complete_from : ℕ → Layout → List ℕ → ℕ → Opened

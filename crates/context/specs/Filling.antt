@@ -4,8 +4,6 @@ use Rattle.std.specs.Prelude.{Bool, ◌||◌, List, ℕ, get_or, set}
 use Rattle.std.specs.Int.Bits.{bit_or}
 use Rattle.attribute_set.specs.Sets.{meets}
 use Rattle.context.specs.Objects.{Object, object}
-pub mod Laws
-pub mod Cases
 
 -- o with the marks of m added: a mark that is known already may stand in m again
 abbrev pub joined : Object → Object → Object

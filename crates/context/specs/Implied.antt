@@ -6,10 +6,9 @@ use Rattle.std.specs.Prelude.{◌≡◌, ◌↔◌, true, false, List, ℕ, ◌^
 use Rattle.theory.specs.Lists.{All}
 use Rattle.theory.specs.Implications.{Implication, Closed, Over}
 use Rattle.attribute_set.specs.Sets.{In, Sub, full, meets}
-use Rattle.attribute_set.specs.Words.{words}
+use Rattle.attribute_set.proofs.Words.{words}
 use Rattle.context.specs.Objects.{Object, word_attributes, has, lacks, contradicts}
 use Rattle.context.specs.Tables.{Complete, Extends}
-pub mod Theorem
 
 -- c is a complete object over n attributes that extends o and respects the implications
 pub record Completion (n : ℕ) (rs : List (Implication ℕ)) (o c : Object) : Type 0 where

@@ -1,6 +1,6 @@
 -- Objects (01: rows) of a table with unknown marks, what one counts as having and lacking where implications are in force, and when it
 -- refutes an implication (01, "Properties, rows, rules"; 02, request 5/13; report 001, section 2.2, partial contexts, and section 3).
-use Rattle.std.specs.Prelude.{Bool, ◌&&◌, List, ℕ, ◌^◌}
+use Rattle.std.specs.Prelude.{Bool, ◌&&◌, List, ℕ, ◌/◌, ◌^◌, min, length}
 use Rattle.std.specs.Int.Bits.{bit_or}
 use Rattle.theory.specs.Implications.{Implication}
 use Rattle.attribute_set.specs.Sets.{inside, meets}
@@ -8,8 +8,6 @@ use Rattle.attribute_set.specs.Passing.{passing}
 use Rattle.implication.specs.Pairs.{pairs}
 use Rattle.implication.specs.Closure.{closure}
 use Rattle.context.specs.Places.{lowest}
-pub mod Laws
-pub mod Cases
 
 -- an object (01: a row): the attributes marked yes, then those marked no; the rest are unknown
 pub record Object : Type 0 where
@@ -22,6 +20,10 @@ object y n = record { yes_marks = y; no_marks = n }
 -- the first n objects of a flat slice
 abbrev pub objects_of : ℕ → List ℕ → List Object
 objects_of n ws = pairs object n ws
+
+-- of the first count objects, how many the slice has whole
+abbrev pub whole : ℕ → List ℕ → ℕ
+whole count ws = min count (length ws / 2)
 
 -- ---- implied marks
 

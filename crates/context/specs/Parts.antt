@@ -8,7 +8,6 @@ use Rattle.theory.specs.Implications.{Implication}
 use Rattle.attribute_set.specs.Sets.{inside, meets}
 use Rattle.implication.specs.Closure.{in_force, closure}
 use Rattle.context.specs.Objects.{Object, objects_of, has, lacks, first_refuting}
-pub mod Laws
 
 -- what a reference points to, at one moment
 pub record At (A : Type 0) : Type 0 where

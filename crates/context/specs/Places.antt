@@ -1,7 +1,5 @@
 -- The first place of a list at which a test holds.
 use Rattle.std.specs.Prelude.{Bool, true, false, List, [], ◌∷◌, ℕ, suc, length, ltb}
-pub mod Laws
-pub mod Search
 
 -- the lowest place at which the test holds, counted from 0; the length where it holds nowhere
 unfoldable pub lowest : {A : Type 0} → (A → Bool) → List A → ℕ

@@ -6,7 +6,6 @@ use Rattle.theory.specs.Lists.{All}
 use Rattle.theory.specs.Implications.{Implication}
 use Rattle.attribute_set.specs.Sets.{Sub, Apart, full, without}
 use Rattle.context.specs.Objects.{Object, object, refutes_written}
-pub mod Laws
 
 -- a complete object over n attributes: none is unknown, and none is marked both ways
 pub record Complete (n : ℕ) (o : Object) : Type 0 where

@@ -3,7 +3,6 @@ use Rattle.std.specs.Prelude.{List, ℕ}
 use Rattle.theory.specs.Implications.{Implication}
 use Rattle.implication.specs.Closure.{in_force_with}
 use Rattle.machine.specs.Calls.{Words}
-pub mod Laws
 
 -- the implications in force in the lent words, and one more: background, list, how many of the list, premise, conclusion
 abbrev pub with_rule : Words → Words → ℕ → ℕ → ℕ → List (Implication ℕ)

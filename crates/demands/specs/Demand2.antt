@@ -10,7 +10,6 @@ use Rattle.context.specs.Tables.{Table, AgreesObject, AgreesImplication}
 use Rattle.machine.specs.Checks.{State, first_failing, session_checks, yes_checks, test_checks, filing_checks, fill_checks, force, question}
 use Rattle.machine.specs.Machine.{Call, accept, reject, file, fill, refused, after_fill, perform}
 use Rattle.demands.specs.Replies.{Reply, agreed, offered, AgreesReply}
-pub mod Theorem
 
 -- the call is refused with 11, at some place
 abbrev pub Refused11 : State → Call → Type 0

@@ -4,14 +4,12 @@ use Rattle.std.specs.Prelude.{◌≡◌, ◌↔◌, true, false, List, ◌++◌,
 use Rattle.theory.specs.Lists.{All}
 use Rattle.theory.specs.Implications.{Implication, Over}
 use Rattle.attribute_set.specs.Sets.{full}
-use Rattle.attribute_set.specs.Words.{words}
+use Rattle.attribute_set.proofs.Words.{words}
 use Rattle.implication.specs.Closure.{follows}
 use Rattle.context.specs.Objects.{Object, refutes}
 use Rattle.machine.specs.Checks.{Lent, State, force}
 use Rattle.machine.specs.Machine.{Call, step, finished, perform, run, opening, opened}
 use Rattle.demands.specs.Replies.{agreed_in, offered_in, filled_by, replies, Truthful}
-pub mod Invariant
-pub mod Theorem
 
 -- an interview is finished if a step after its last call answers Finished
 abbrev pub Finished : State → Type 0

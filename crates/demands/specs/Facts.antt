@@ -5,16 +5,13 @@ use Rattle.std.specs.Prelude.{◌≡◌, true, ℕ, ◌*◌, ◌/◌, ◌%◌, �
 use Rattle.theory.specs.Lists.{All}
 use Rattle.theory.specs.Implications.{Over}
 use Rattle.attribute_set.specs.Sets.{Sub, Apart, full}
-use Rattle.attribute_set.specs.Words.{words}
+use Rattle.attribute_set.proofs.Words.{words}
 use Rattle.implication.specs.Closure.{closure}
 use Rattle.context.specs.Objects.{Object, refutes}
 use Rattle.context.specs.Filling.{joined, object_at}
 use Rattle.session.specs.Limits.{most_attributes, most_objects, most_implications}
 use Rattle.machine.specs.Checks.{State, force, question, with_question}
-use Rattle.machine.specs.Checks.Laws.{InM, Stands}
-pub mod Laws
-pub mod Kept
-pub mod Refused
+use Rattle.machine.proofs.Checks.Laws.{InM, Stands}
 
 -- a lent length: whole places, and no more than a limit allows
 pub record Places (most length : ℕ) : Type 0 where

@@ -4,7 +4,6 @@ use Rattle.std.specs.Prelude.{◌≡◌, Bool, true, false}
 use Rattle.context.specs.Objects.{Object}
 use Rattle.machine.specs.Checks.{State}
 use Rattle.machine.specs.Machine.{Call, reject, test, file, Answer, finished, moved, asked, taken, followed, refuted, unrefuted, refuting, refused, Turn, perform}
-pub mod Theorem
 
 abbrev pub is_refused : Answer → Bool
 is_refused finished = false

@@ -5,7 +5,6 @@ use Rattle.std.proofs.Math.Option.{none, some}
 use Rattle.context.specs.Objects.{Object, refutes, contradicts}
 use Rattle.machine.specs.Checks.{State, force, question, question_stands, Check, check, first_failing, bad_row, session_checks}
 use Rattle.machine.specs.Machine.{reject, taken, refused, Turn, turn, after_filing, perform}
-pub mod Theorem
 
 -- no question; a bad row; a row that does not refute the question; one that contradicts; no place for a row
 unfoldable pub checks_before : State → Object → List Check

@@ -9,7 +9,6 @@ use Rattle.context.specs.Filling.{joined, filled_at}
 use Rattle.context.specs.Tables.{Table, AgreesObject, AgreesImplication}
 use Rattle.machine.specs.Checks.{State}
 use Rattle.machine.specs.Machine.{Call, step, accept, reject, follow, refute, test, file, fill, Answer, finished, moved, asked, taken, followed, refuted, unrefuted, refuting, refused, perform, run}
-pub mod Laws
 
 -- an accepted reply: the question that a yes agreed to, the object that a no or a filing offered, or a row number and the marks that a
 -- filling offered for that row

@@ -11,8 +11,6 @@ use Rattle.context.specs.Filling.{object_at}
 use Rattle.machine.specs.Checks.{Lent, State, force}
 use Rattle.machine.specs.Machine.{Call, step, accept, reject, follow, refute, test, file, fill, asked, taken, followed, refuted, perform, run, opening, opened}
 use Rattle.demands.specs.Demand3.{Finished, OverM, SameConsequences}
-pub mod Laws
-pub mod Theorem
 
 -- r follows from the rules in force
 abbrev pub Follows : State → Implication ℕ → Type 0

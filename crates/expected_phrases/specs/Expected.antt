@@ -6,8 +6,6 @@ use Rattle.text.specs.Text.{number_text, space}
 use Rattle.refusal_words.specs.Words.{bytes, joined, line_number}
 use Rattle.table_header.specs.Header.{attribute_count}
 use Rattle.file_mistakes.specs.Mistakes.{looks_like, mistake_phrase}
-pub mod Laws
-pub mod Cases
 
 -- what was expected, a phrase for each number from 21 on; none before and behind
 abbrev pub phrases : List ℕ

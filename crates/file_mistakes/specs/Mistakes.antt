@@ -2,8 +2,6 @@
 -- phrase for each (the words are not 01's).
 use Rattle.std.specs.Prelude.{Bool, true, false, ◌&&◌, ◌||◌, List, [], ◌∷◌, ℕ, get_or, eqb}
 use Rattle.refusal_words.specs.Words.{joined, line_number}
-pub mod Laws
-pub mod Cases
 
 -- two bytes are these two
 abbrev pub are : ℕ → ℕ → ℕ → ℕ → Bool

@@ -6,7 +6,6 @@ use Rattle.table_layout.specs.declared.Layout.{Layout}
 use Rattle.table_layout.specs.declared.Opened.{Opened}
 use Rattle.table_layout.specs.declared.Opened.TheVariants.{Found, Refused}
 use Rattle.table_layout.specs.Layout.{opened_of}
-pub mod Laws
 
 -- the counts and offsets of a layout
 abbrev pub fields_of : Layout → List ℕ

@@ -3,7 +3,6 @@ use Rattle.std.specs.Prelude.{◌≡◌, List, true, false, ℕ, ◌+◌, ◌-�
 use Rattle.text.specs.Page.{page, text, Buffer, Puts}
 use Rattle.handed_output.specs.declared.Handed.{Handed}
 use Rattle.handed_output.specs.declared.Told.{Told}
-pub mod Laws
 
 -- nothing was handed over yet
 abbrev pub untold : Handed

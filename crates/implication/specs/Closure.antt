@@ -6,7 +6,6 @@ use Rattle.std.specs.Int.Bits.{bit_or}
 use Rattle.theory.specs.Implications.{Implication}
 use Rattle.attribute_set.specs.Sets.{inside}
 use Rattle.implication.specs.Pairs.{pairs}
-pub mod Laws
 
 -- an implication (01: a rule) between words: premise, conclusion
 abbrev pub implication : ℕ → ℕ → Implication ℕ

@@ -1,7 +1,6 @@
 -- How a flat slice of words is read two at a time (01, "Properties, rows, rules": a row and a rule are two words each).
 -- The reading is total: a word that the slice has not counts as 0, so a short or odd slice has a reading too.
 use Rattle.std.specs.Prelude.{List, [], ◌∷◌, ℕ, zero, suc, get_or, drop}
-pub mod Laws
 
 -- the first n pairs of words, each made into an element
 unfoldable pub pairs : {A : Type 0} → (ℕ → ℕ → A) → ℕ → List ℕ → List A

@@ -5,9 +5,8 @@ use Rattle.std.specs.Prelude.{◌≡◌, List, ℕ}
 use Rattle.std.specs.Int.Bits.{bit_and}
 use Rattle.theory.specs.Implications.{Implication, Closed}
 use Rattle.attribute_set.specs.Sets.{Sub}
-use Rattle.attribute_set.specs.Words.{words}
+use Rattle.attribute_set.proofs.Words.{words}
 use Rattle.implication.specs.Closure.{pass}
-pub mod Laws
 
 -- r is what a pass over rs makes of set, or what it had made of it when it met stop
 pub record PassUntil (rs : List (Implication ℕ)) (set stop r : ℕ) : Type 0 where

@@ -8,7 +8,6 @@ use Rattle.interview_replies.specs.declared.Interview.{Interview}
 use Rattle.interview_replies.specs.declared.Beaten.{Beaten}
 use Rattle.interview_replies.specs.Holding.{held, Beats}
 use Rattle.table_replies.specs.Reply.{tabled, Fitting}
-pub mod Laws
 
 -- the call writes the end
 abbrev pub WritesEnd : Interview → Words → Words → Buffer → ℕ → ℕ → Type 0

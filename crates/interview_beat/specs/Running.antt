@@ -2,20 +2,20 @@
 use Rattle.std.specs.Prelude.{◌≡◌, refl, true, false, List, ◌++◌, length, eqb}
 use Rattle.std.proofs.Common.{sym, ap, ◌∙◌, arith, ltb-false}
 use Prim.Native.Nat.{ℕ, suc, ◌+◌, ◌*◌, ◌/◌, ◌^◌, ◌≤◌, ◌<◌}
-use Rattle.implication.specs.Pairs.Laws.{length_pairs}
+use Rattle.implication.proofs.Pairs.Laws.{length_pairs}
 use Rattle.implication.specs.Closure.{implication}
 use Rattle.context.specs.Objects.{Object, object, objects_of}
 use Rattle.session.specs.Limits.{most_attributes}
 use Rattle.machine.specs.Checks.{State}
-use Rattle.machine.specs.Checks.Laws.{or-false}
+use Rattle.machine.proofs.Checks.Laws.{or-false}
 use Rattle.text.specs.Page.{Page, page, text}
-use Rattle.text.specs.Page.Laws.{text-append, text-inside, text-length}
+use Rattle.text.proofs.Page.Laws.{text-append, text-inside, text-length}
 use Rattle.transcript.specs.Output.{Beat, more, last, beats, enough}
-use Rattle.transcript.specs.Output.Ends.{measure, measure-enough, beat-falls, beats-same}
+use Rattle.transcript.proofs.Output.Ends.{measure, measure-enough, beat-falls, beats-same}
 use Rattle.transcript.specs.Core.{core_beat}
 use Rattle.transcript.specs.Core.Along.{Along}
-use Rattle.transcript.specs.Core.Beats.{core-beat}
-use Rattle.transcript.specs.Core.Kept.{core-along}
+use Rattle.transcript.proofs.Core.Beats.{core-beat}
+use Rattle.transcript.proofs.Core.Kept.{core-along}
 use Rattle.interview_replies.specs.declared.Interview.{Interview}
 use Rattle.interview_replies.specs.declared.Beaten.{Beaten}
 use Rattle.interview_replies.specs.Holding.{holding, line_written, going, Leaves}

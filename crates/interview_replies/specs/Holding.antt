@@ -10,7 +10,6 @@ use Rattle.transcript.specs.Output.{Beat, more, last}
 use Rattle.transcript.specs.Core.{core_no, core_yes}
 use Rattle.interview_replies.specs.declared.Interview.{Interview}
 use Rattle.interview_replies.specs.declared.Beaten.{Beaten}
-pub mod Laws
 
 -- ---- states
 

@@ -1,6 +1,5 @@
 -- A test of all the bytes of a line.
 use Rattle.std.specs.Prelude.{Bool, true, false, List, [], ◌∷◌, ℕ}
-pub mod Laws
 
 unfoldable pub everywhere : (ℕ → Bool) → List ℕ → Bool
 everywhere f [] = true

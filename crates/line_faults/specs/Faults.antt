@@ -5,7 +5,6 @@ use Rattle.session.specs.Limits.{most_attributes, most_objects}
 use Rattle.line_tests.specs.Tests.{most_name_bytes, refuse_unless, count_fault, is_letter, is_name, is_marks}
 use Rattle.table_kinds.specs.declared.Kind.{Kind}
 use Rattle.table_kinds.specs.declared.Kind.TheVariants.{Letter, Title, Objects, Attributes, Blank, Name, Marks}
-pub mod Laws
 
 -- the number with which a line of the kind is refused; 0 where it is fine
 unfoldable pub fault : Kind → List ℕ → ℕ

@@ -1,7 +1,6 @@
 -- The number of the line of a file that an offset lies in.
 use Rattle.std.specs.Prelude.{true, false, ◌&&◌, List, ℕ, zero, suc, length, ltb, leb}
 use Rattle.table_lines.specs.Lines.{after}
-pub mod Laws
 
 -- how many lines, from the one at an offset on and at most k, end before a place
 unfoldable pub ended_before : ℕ → List ℕ → ℕ → ℕ → ℕ

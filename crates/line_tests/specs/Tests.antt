@@ -4,7 +4,6 @@ use Rattle.std.specs.Prelude.{Bool, true, false, ◌&&◌, List, ℕ, length, ge
 use Rattle.table_bytes.specs.Bytes.{is_mark}
 use Rattle.line_bytes.specs.Everywhere.{everywhere}
 use Rattle.table_counts.specs.Counts.{is_count, count_of}
-pub mod Laws
 
 -- the most bytes of a title or a name
 abbrev pub most_name_bytes : ℕ

@@ -8,7 +8,6 @@ use Rattle.line_walk.specs.declared.Walk.{Walk}
 use Rattle.line_walk.specs.declared.Walk.TheVariants.{Failed, At}
 use Rattle.table_kinds.specs.Kinds.{absent}
 use Rattle.line_faults.specs.Faults.{fault}
-pub mod Laws
 
 -- a line exists if the file has a byte at its start
 unfoldable pub line_fault : Kind → List ℕ → ℕ → ℕ

@@ -9,7 +9,6 @@ use Rattle.machine.specs.Calls.{Words, MadeFrom}
 use Rattle.session.specs.declared.Session.{Session}
 use Rattle.answer_words.specs.Codes.{coded, code_of}
 use Rattle.answer_words.specs.declared.Answer.{Answer as Coded}
-pub mod Laws
 
 -- the kinds: 0 step, 1 yes, 2 no, 3 follows, 4 refuted, 5 test, 6 filing, 7 filling (row number, yes marks, no marks); an argument that a kind does not use may be
 -- any word

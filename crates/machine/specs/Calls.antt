@@ -10,7 +10,6 @@ use Rattle.context.specs.Parts.{Lent}
 pub use Rattle.context.specs.Parts.{Words}
 use Rattle.machine.specs.Checks.{State, question}
 use Rattle.machine.specs.Machine.{Call, step, accept, reject, follow, refute, test, file, fill, Answer, finished, moved, asked, taken, followed, refuted, unrefuted, refuting, refused, perform, Opening, opening}
-pub mod Laws
 
 -- ---- states
 

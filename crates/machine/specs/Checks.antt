@@ -12,7 +12,6 @@ use Rattle.context.specs.Places.{lowest, anywhere}
 use Rattle.context.specs.Objects.{Object, refutes, marked_twice, contradicts}
 use Rattle.context.specs.Filling.{joined, reverses, object_at}
 use Rattle.reach.specs.Reach.{reach}
-pub mod Laws
 
 -- the lengths of the lent slices, in words: two to an object, two to an implication
 pub record Lent : Type 0 where

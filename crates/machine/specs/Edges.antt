@@ -7,7 +7,6 @@ use Rattle.context.specs.Objects.{Object, object}
 use Rattle.session.specs.Refusals.{refusal}
 use Rattle.machine.specs.Checks.{Lent, State}
 use Rattle.machine.specs.Machine.{step, accept, reject, follow, refute, test, file, fill, finished, asked, taken, refuted, refuting, refused, turn, move_to, agreeing, after_yes, perform, rejected, opened, opening, opening_state}
-pub mod Proof
 
 -- lent lengths: row words, list words, background words
 abbrev pub lent : ℕ → ℕ → ℕ → Lent

@@ -9,7 +9,6 @@ use Rattle.context.specs.Objects.{Object, first_refuting}
 use Rattle.context.specs.Filling.{filled_at}
 use Rattle.session.specs.declared.Refusal.{Refusal}
 use Rattle.machine.specs.Checks.{Lent, State, Check, first_failing, session_checks, yes_checks, test_checks, filing_checks, fill_checks, no_checks, force, whole, tight, open-question, standing, question}
-pub mod Laws
 
 -- the calls of a session, with any arguments
 pub data Call : Type 0 where

@@ -9,7 +9,6 @@ use Rattle.context.specs.Objects.{object}
 use Rattle.reach.specs.Reach.{reach}
 use Rattle.machine.specs.Checks.{Lent, State, reach_of}
 use Rattle.machine.specs.Machine.{step, accept, reject, finished, asked, refused, perform, opening, opened, opening_state}
-pub mod Proof
 
 -- all places lent, and one background implication
 abbrev pub lent : Lent

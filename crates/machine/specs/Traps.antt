@@ -6,7 +6,6 @@ use Rattle.implication.specs.Closure.{implication}
 use Rattle.context.specs.Objects.{Object, object}
 use Rattle.machine.specs.Checks.{State}
 use Rattle.machine.specs.Machine.{step, accept, reject, moved, asked, taken, turn, perform, opening, opened}
-pub mod Proof
 
 -- no background; the list, the rows and the current set
 abbrev pub state : List (Implication ℕ) → List Object → ℕ → State

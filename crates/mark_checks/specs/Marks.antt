@@ -4,7 +4,6 @@ use Rattle.theory.specs.Implications.{Implication}
 use Rattle.machine.specs.Checks.{State, first_failing, session_checks}
 use Rattle.size_checks.specs.declared.Verdict.{Verdict}
 use Rattle.size_checks.specs.Verdicts.{verdict_of}
-pub mod Laws
 
 -- whatever implication is asked about
 abbrev pub Marks : State → Verdict → Type 0

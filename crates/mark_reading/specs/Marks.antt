@@ -10,8 +10,6 @@ use Rattle.table_layout.specs.declared.Opened.TheVariants.{Found, Refused}
 use Rattle.found_layout.specs.Found.{opened_as}
 use Rattle.table_rows.specs.Rows.{rows_from}
 use Rattle.complete_tables.specs.Complete.{opened_complete}
-pub mod Laws
-pub mod Loop
 
 -- rows as words: two to a row
 unfoldable pub flat : List Object → List ℕ

@@ -1,6 +1,5 @@
 -- A line of marks as text (02, request 2/13: only `X`, `.` and `?` as marks). An attribute is 01's property.
 use Rattle.std.specs.Prelude.{List, [], ◌∷◌, ℕ, zero, suc, ◌/◌, ◌%◌}
-pub mod Laws
 
 -- the mark of an attribute, by its digits in the two words of a row: `X` for yes, `.` for no, `?` where it is unknown
 abbrev pub mark_of : ℕ → ℕ → ℕ

@@ -5,7 +5,6 @@ use Rattle.table_lines.specs.Lines.{line_of, skipped}
 use Rattle.found_layout.specs.Found.{finds}
 use Rattle.table_layout.specs.declared.Layout.{Layout}
 use Rattle.name_spans.specs.declared.Span.{Span}
-pub mod Laws
 
 -- a part of the file
 abbrev pub span : ℕ → ℕ → Span

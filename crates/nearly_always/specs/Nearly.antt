@@ -7,10 +7,7 @@ use Rattle.session.specs.Limits.{most_attributes, most_objects}
 use Rattle.attribute_set.specs.Sets.{inside, without}
 use Rattle.attribute_set.specs.Passing.{passing}
 use Rattle.context.specs.Objects.{Object, objects_of}
-pub mod Laws
 pub mod Listed
-pub mod Theorem
-pub mod Cases
 pub mod Counting
 
 -- the rows whose yes marks contain a set

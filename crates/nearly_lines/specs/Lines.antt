@@ -8,7 +8,6 @@ use Rattle.text.specs.Text.{newline}
 use Rattle.output_lines.specs.Lines.{rule_text}
 use Rattle.nearly_always.specs.Nearly.{nearly_always, InRange}
 use Rattle.short_premises.specs.Premises.{premises}
-pub mod Laws
 
 -- `N`, premise, listed attributes
 abbrev pub nearly_line : ℕ → Implication ℕ → List ℕ

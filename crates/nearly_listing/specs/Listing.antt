@@ -12,7 +12,6 @@ use Rattle.row_checks.specs.Rows.{row_checks_with}
 use Rattle.nearly_always.specs.Nearly.{nearly_always, most_percent}
 use Rattle.nearly_listing.specs.declared.Nearly.{Nearly}
 use Rattle.nearly_listing.specs.declared.Nearly.TheVariants.{Listed, Refused}
-pub mod Laws
 pub mod Places
 
 -- a percentage above 99

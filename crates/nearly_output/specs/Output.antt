@@ -12,7 +12,6 @@ use Rattle.handed_output.specs.declared.Told.{Told}
 use Rattle.standard_streams.specs.Answers.{AnswersIn}
 use Rattle.short_premises.specs.Premises.{premises}
 use Rattle.nearly_lines.specs.Lines.{nearly_lines}
-pub mod Laws
 pub mod Example
 
 -- the percentage that the program lists at

@@ -4,11 +4,8 @@ use Rattle.std.specs.Prelude.{◌≡◌, ◌⊎◌, Bool, true, false, ◌&&◌,
 use Rattle.theory.specs.Implications.{Implication, Closed}
 use Rattle.attribute_set.specs.Sets.{digit, Sub, full}
 use Rattle.attribute_set.specs.Lectic.{Before, below, raise}
-use Rattle.attribute_set.specs.Words.{words}
+use Rattle.attribute_set.proofs.Words.{words}
 use Rattle.implication.specs.Closure.{closure}
-pub mod Laws
-pub mod Cases
-pub mod Tested
 
 -- the candidate at j: the closure of attribute j with the members of x below it
 abbrev pub candidate : List (Implication ℕ) → ℕ → ℕ → ℕ

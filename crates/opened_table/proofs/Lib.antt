@@ -1,2 +1,3 @@
 pub mod Viewed
 pub mod Naming
+pub mod Views

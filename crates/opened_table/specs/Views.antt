@@ -10,7 +10,6 @@ use Rattle.name_spans.specs.Spans.{object_span, attribute_span}
 use Rattle.table_names.specs.Names.{Named}
 use Rattle.coded_tables.specs.Tables.{code_of_opened, layout_after}
 use Rattle.opened_table.specs.declared.Table.{Table}
-pub mod Laws
 
 -- the layout of no file
 abbrev pub no_layout : Layout

@@ -3,7 +3,6 @@ use Rattle.std.specs.Prelude.{List, [], ◌∷◌, ◌++◌, ℕ, ◌/◌, min, 
 use Rattle.theory.specs.Implications.{Implication}
 use Rattle.implication.specs.Closure.{implications_of}
 use Rattle.text.specs.Text.{number_text, set_text, space, newline}
-pub mod Laws
 
 -- premise, conclusion
 abbrev pub rule_text : ℕ → Implication ℕ → List ℕ

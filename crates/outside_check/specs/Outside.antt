@@ -3,7 +3,6 @@ use Rattle.std.specs.Prelude.{◌≡◌, Bool, [], ◌∷◌, ℕ, ◌/◌, ◌�
 use Rattle.theory.specs.Implications.{Implication}
 use Rattle.session.specs.Limits.{most_attributes}
 use Rattle.machine.specs.Checks.{State, outside_m}
-pub mod Laws
 
 -- what checks 1 and 3 say of a state: no more attributes than a session has, and no more rows and rules than places
 abbrev pub Fits : State → Type 0

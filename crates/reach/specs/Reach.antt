@@ -4,8 +4,6 @@ use Rattle.std.specs.Prelude.{true, false, List, [], ◌∷◌, ℕ}
 use Rattle.theory.specs.Implications.{Implication}
 use Rattle.attribute_set.specs.Sets.{inside, full, without}
 use Rattle.context.specs.Objects.{Object, has, lacks}
-pub mod Laws
-pub mod Cases
 
 -- x without what the object lacks, where it has all of p
 unfoldable pub cut : List (Implication ℕ) → ℕ → Object → ℕ → ℕ

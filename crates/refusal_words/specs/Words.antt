@@ -3,8 +3,6 @@ use Rattle.std.specs.Prelude.{Bool, true, false, ◌&&◌, List, [], ◌∷◌, 
 use Prim.Native.Char.{code}
 use Prim.Native.String.{String}
 use Prim.Native.String as string
-pub mod Laws
-pub mod Cases
 
 -- a text as bytes, one for each character
 unfoldable pub bytes : String → List ℕ

@@ -8,7 +8,6 @@ use Rattle.standing.specs.declared.Question.{Question}
 use Rattle.standing.specs.Standings.{question_of}
 use Rattle.reply_checks.specs.declared.Asking.{Asking}
 use Rattle.reply_checks.specs.declared.Asking.TheVariants.{Question as AskingQuestion, Refused as AskingRefused}
-pub mod Laws
 
 -- the question that a reply or a test is made to, where its checks pass; else its refusal
 abbrev pub asking_after : Question → Option Refusal → Asking

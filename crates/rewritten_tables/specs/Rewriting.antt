@@ -9,8 +9,6 @@ use Rattle.table_layout.specs.Layout.{opened_of}
 use Rattle.table_writing.specs.declared.Written.{Written}
 use Rattle.table_writing.specs.declared.Written.TheVariants.{Bytes, Refused}
 use Rattle.written_tables.specs.Settled.{WritesAgain, SettlesOr30}
-pub mod Laws
-pub mod Theorem
 
 -- the row words of a session before the reading
 abbrev pub no_rows : List ℕ

@@ -8,7 +8,6 @@ use Rattle.context.specs.Objects.{objects_of, marked_twice}
 use Rattle.machine.specs.Checks.{Check, check, first_failing, strange_object}
 use Rattle.size_checks.specs.declared.Verdict.{Verdict}
 use Rattle.size_checks.specs.Verdicts.{verdict_of}
-pub mod Laws
 pub mod Places
 
 -- n attributes, so many rows in use, and the row words

@@ -12,9 +12,6 @@ use Rattle.complete_tables.specs.Complete.{opened_complete}
 use Rattle.table_rows.specs.Rows.{rows_from}
 use Rattle.table_names.specs.Names.{object_name, attribute_name}
 use Rattle.mark_reading.specs.Marks.{reading, words_read, complete_reading, complete_words_read}
-pub mod Walks
-pub mod Tables
-pub mod Theorem
 
 -- offsets of the same line: in each file that many lines stand before it; behind the last line it is the end of the file
 abbrev pub SameLine : List ℕ → List ℕ → ℕ → ℕ → Type 0

@@ -4,7 +4,6 @@ use Rattle.std.specs.Prelude.{◌≡◌, ◌⊎◌, List, ℕ}
 use Rattle.session.specs.declared.Refusal.{Refusal}
 use Rattle.closing_lines.specs.Closing.{refusal_line}
 use Rattle.same_lines.specs.Files.{SameRefusal}
-pub mod Theorem
 
 -- what is written for the files f and g
 abbrev pub SameWritten : List ℕ → List ℕ → List ℕ → List ℕ → Type 0

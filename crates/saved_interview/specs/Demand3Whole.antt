@@ -13,7 +13,6 @@ use Rattle.demands.specs.Demand3.{Finished, OverM, SameConsequences}
 use Rattle.machine.specs.Calls.{state_of, opening_from}
 use Rattle.call_logs.specs.Replay.{known, answers_of, log_of, PastKept, log_words, AllMade}
 use Rattle.session.specs.declared.Session.{Session}
-pub mod Theorem
 
 -- an interview over n attributes and lent background words: what was lent, the record that the opening gave, the words of the
 -- calls, and the record and words that replaying them left

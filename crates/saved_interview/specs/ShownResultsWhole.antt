@@ -17,7 +17,6 @@ use Rattle.call_logs.specs.Replay.{known, log_of, log_words, AllMade}
 use Rattle.session.specs.declared.Session.{Session}
 use Rattle.saved_interview.specs.Demand3Whole.{Interview, state_opened, end_state, script, rules, end_list}
 use Rattle.saved_interview.specs.Trace.{state_after, answer_at, log}
-pub mod Theorem
 
 -- ---- two replays in turn
 

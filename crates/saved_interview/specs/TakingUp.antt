@@ -16,7 +16,6 @@ use Rattle.call_logs.specs.declared.Log.TheVariants.{Replayed, Short}
 use Rattle.saved_interview.specs.Demand3Whole.{Interview, state_opened, end_state, script, Demand3Whole, SameLists}
 use Rattle.saved_interview.specs.Trace.{Trace}
 use Rattle.saved_interview.specs.ShownResultsWhole.{ShownInLog}
-pub mod Theorem
 
 -- the answer to a log, the record that is left, and whether it changed: only where the calls were made
 abbrev pub TurnAfter : Session → Log → Session → Coded → Session → Bool → Type 0

@@ -8,7 +8,6 @@ use Rattle.answer_words.specs.declared.Answer.{Answer as Coded}
 use Rattle.answer_words.specs.Codes.{coded}
 use Rattle.call_logs.specs.Replay.{replay_code, replay_after, known, log_of}
 use Rattle.saved_interview.specs.Demand3Whole.{Interview, state_opened, end_state}
-pub mod Proof
 
 -- the state after the first k calls of a log
 abbrev pub state_after : State → List (Option Call) → ℕ → State

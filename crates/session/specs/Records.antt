@@ -2,7 +2,6 @@
 -- and the current set).
 use Rattle.std.specs.Prelude.{Bool, ◌&&◌, eqb}
 use Rattle.session.specs.declared.Session.{Session}
-pub mod Laws
 
 abbrev pub same_session : Session → Session → Bool
 same_session a b = eqb a.n b.n && (eqb a.rows b.rows && (eqb a.rules b.rules && eqb a.current b.current))

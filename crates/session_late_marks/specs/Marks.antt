@@ -6,7 +6,6 @@ use Rattle.machine.specs.Checks.{State, first_failing}
 use Rattle.machine.specs.Machine.{fill, checks_of}
 use Rattle.size_checks.specs.declared.Verdict.{Verdict}
 use Rattle.size_checks.specs.Verdicts.{verdict_of}
-pub mod Laws
 
 -- the verdict of checks 1 to 7, 32, 9, 33 and 11 of a filling of row k
 abbrev pub FillChecked : State → ℕ → Object → Verdict → Type 0

@@ -4,7 +4,6 @@ use Rattle.machine.specs.Machine.{Opening, opened, rejected}
 use Rattle.machine.specs.Calls.{state_of, Words, opening_from}
 use Rattle.session_opening.specs.declared.Opened.{Opened}
 use Rattle.session_opening.specs.declared.Opened.TheVariants.{Open, Refused}
-pub mod Laws
 
 -- an opening: the state that the record and the lent words then hold
 abbrev pub opening_of : Opened → List ℕ → List ℕ → List ℕ → Opening

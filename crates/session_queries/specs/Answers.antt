@@ -6,7 +6,6 @@ use Rattle.session_queries.specs.declared.Following.{Following}
 use Rattle.session_queries.specs.declared.Following.TheVariants.{Follows, Lacking, Refused as FollowingRefused}
 use Rattle.session_queries.specs.declared.Refuting.{Refuting}
 use Rattle.session_queries.specs.declared.Refuting.TheVariants.{By, Nothing, Refused as RefutingRefused}
-pub mod Laws
 
 abbrev pub following_answer : Following → Answer
 following_answer Follows = followed true

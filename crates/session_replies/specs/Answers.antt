@@ -7,7 +7,6 @@ use Rattle.session.specs.declared.Refusal.{Refusal}
 use Rattle.session_replies.specs.declared.Reply.{Reply}
 use Rattle.session_replies.specs.declared.Reply.TheVariants.{Taken, Refused}
 use Rattle.session_replies.specs.declared.Replied.{Replied}
-pub mod Laws
 
 abbrev pub reply_answer : Reply → Answer
 reply_answer Taken = taken

@@ -9,7 +9,7 @@ use Rattle.machine.specs.Checks.{State, question}
 use Rattle.machine.specs.Machine.{Call, accept, reject, file, fill, refused, perform}
 use Rattle.demands.specs.Replies.{agreed, offered}
 use Rattle.demands.specs.Demand2.{Refused11, Contradictory, ContradictoryFilled, YesUpTo11, NoUpTo11, FilingUpTo11, FillUpTo11}
-use Rattle.demands.specs.Demand2.Theorem.{demand-2}
+use Rattle.demands.proofs.Demand2.Theorem.{demand-2}
 use Rattle.machine.specs.Calls.{state_of}
 use Rattle.session_replies.specs.Answers.{reply_answer}
 use Rattle.session.specs.declared.Session.{Session}

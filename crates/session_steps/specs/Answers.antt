@@ -4,7 +4,6 @@ use Rattle.implication.specs.Closure.{implication}
 use Rattle.machine.specs.Machine.{Answer, finished, moved, asked, refused}
 use Rattle.session_steps.specs.declared.Step.{Step}
 use Rattle.session_steps.specs.declared.Step.TheVariants.{Finished, Moved, Asked, Refused as StepRefused}
-pub mod Laws
 
 abbrev pub step_answer : Step → Answer
 step_answer Finished = finished

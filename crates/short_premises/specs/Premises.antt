@@ -4,8 +4,6 @@ use Rattle.std.specs.Prelude.{◌≡◌, true, false, ◌⊎◌, ℕ, zero, suc,
 use mathlib.Core.List.{List, [], ◌∷◌, ◌++◌, Memᴰ}
 use Rattle.attribute_set.specs.Sets.{In, Sub, full}
 use Rattle.attribute_set.specs.Lectic.{Before}
-pub mod Laws
-pub mod Theorem
 
 -- attribute i with each one above it and below k, the highest first
 unfoldable pub pairs_with : ℕ → ℕ → List ℕ

@@ -6,7 +6,6 @@ use Rattle.machine.specs.Checks.{State, first_failing, session_checks, question,
 use Rattle.standing.specs.declared.Question.{Question}
 use Rattle.standing.specs.declared.Standing.{Standing}
 use Rattle.standing.specs.declared.Standing.TheVariants.{Refused, Full, Tight, Open}
-pub mod Laws
 
 -- the question, as the code has it
 abbrev pub question_of : State → Question

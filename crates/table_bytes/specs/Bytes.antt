@@ -2,7 +2,6 @@
 use Rattle.std.specs.Prelude.{Bool, not, ◌&&◌, ◌||◌, ℕ, eqb, leb}
 use Rattle.table_bytes.specs.declared.ByteKind.{ByteKind}
 use Rattle.table_bytes.specs.declared.ByteKind.TheVariants.{Digit, Mark, Known}
-pub mod Laws
 
 abbrev pub is_digit : ℕ → Bool
 is_digit b = leb 48 b && leb b 57

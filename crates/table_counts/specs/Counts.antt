@@ -2,7 +2,6 @@
 use Rattle.std.specs.Prelude.{Bool, true, false, ◌&&◌, List, [], ◌∷◌, ℕ, ◌+◌, ◌*◌, ◌-◌, length, ltb, leb}
 use Rattle.table_bytes.specs.Bytes.{is_digit}
 use Rattle.line_bytes.specs.Everywhere.{everywhere}
-pub mod Laws
 
 -- the decimal number of digits, the first one counting most
 unfoldable pub decimal_from : ℕ → List ℕ → ℕ

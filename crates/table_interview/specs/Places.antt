@@ -11,7 +11,6 @@ use Rattle.table_layout.specs.declared.Layout.{Layout}
 use Rattle.table_layout.specs.declared.Opened.{Opened}
 use Rattle.table_layout.specs.declared.Opened.TheVariants.{Found}
 use Rattle.transcript.specs.Output.{table_of}
-pub mod Laws
 
 -- ---- places
 

@@ -12,8 +12,6 @@ use Rattle.table_layout.specs.declared.Opened.TheVariants.{Found, Refused}
 use Rattle.line_walk.specs.Walk.{walk}
 use Rattle.table_header.specs.Header.{object_count, attribute_count, header}
 use Rattle.table_walk.specs.Walk.{place_of, then_rest}
-pub mod Laws
-pub mod Passed
 
 -- the most bytes of a table file
 abbrev pub most_bytes : ℕ

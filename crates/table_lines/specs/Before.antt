@@ -3,7 +3,6 @@
 use Rattle.std.specs.Prelude.{◌≡◌, true, false, ◌&&◌, List, [], ◌∷◌, ℕ, suc, ◌<◌, length, get_or, eqb}
 use Rattle.table_lines.specs.declared.Line.{Line}
 use Rattle.table_lines.specs.Lines.{line_feed, carriage_return, feeds, line, longer}
-pub mod Laws
 
 -- the line that began where the bytes begin
 unfoldable pub line_before : List ℕ → Line

@@ -2,7 +2,6 @@
 -- feed, at a carriage return alone, or at the end of the file). All else goes through `line_of` and its laws.
 use Rattle.std.specs.Prelude.{◌≡◌, Bool, true, false, ◌⊎◌, List, [], ◌∷◌, ℕ, zero, suc, ◌+◌, take, drop, eqb}
 use Rattle.table_lines.specs.declared.Line.{Line}
-pub mod Laws
 
 abbrev pub line_feed : ℕ
 line_feed = 10

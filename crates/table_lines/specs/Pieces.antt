@@ -3,8 +3,6 @@
 use Rattle.std.specs.Prelude.{◌≡◌, ◌⊎◌, List, [], ◌∷◌, ◌++◌, map, ℕ, zero, suc, ◌<◌, length, take, drop}
 use Rattle.theory.specs.Lists.{All}
 use Rattle.table_lines.specs.Lines.{NoEnd, IsEnd, line_of}
-pub mod Laws
-pub mod Parts
 
 -- a line: its bytes, and those of its end
 pub record Piece : Type 0 where

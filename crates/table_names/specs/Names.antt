@@ -3,7 +3,6 @@ use Rattle.std.specs.Prelude.{◌≡◌, Bool, true, false, List, ℕ, eqb, take
 use Rattle.table_layout.specs.declared.Layout.{Layout}
 use Rattle.name_spans.specs.declared.Span.{Span}
 use Rattle.name_spans.specs.Spans.{span_from, object_span, attribute_span}
-pub mod Laws
 
 -- the bytes of a part of the file
 abbrev pub bytes_of : List ℕ → Span → List ℕ

@@ -9,7 +9,6 @@ use Rattle.transcript.specs.Core.{core_reply}
 use Rattle.interview_replies.specs.declared.Interview.{Interview}
 use Rattle.interview_replies.specs.declared.Beaten.{Beaten}
 use Rattle.interview_replies.specs.Holding.{held, Beats}
-pub mod Laws
 
 -- the rows of the table that a beat is lent
 abbrev pub tabled : ℕ → Words → List Object

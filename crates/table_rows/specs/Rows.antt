@@ -4,7 +4,6 @@ use Rattle.std.specs.Prelude.{Bool, true, false, List, [], ◌∷◌, ℕ, zero,
 use Rattle.table_lines.specs.Lines.{bytes_at, after}
 use Rattle.context.specs.Objects.{Object, object}
 use Rattle.table_bytes.specs.Bytes.{is_yes, is_no}
-pub mod Laws
 
 abbrev pub bit_of : Bool → ℕ
 bit_of true = 1

@@ -7,7 +7,6 @@ use Rattle.table_lines.specs.Pieces.{lines_of}
 use Rattle.text.specs.Text.{number_text}
 use Rattle.marks_text.specs.Marks.{marks_text}
 use Rattle.closed_lines.specs.Closed.{closed}
-pub mod Laws
 
 -- the first five lines, with the two counts
 abbrev pub header_lines : ℕ → ℕ → List (List ℕ)

@@ -2,8 +2,7 @@
 // is 01's row, an attribute its property.
 #![tactic(auto)]
 ghost use Rattle.std.specs.Prelude.{[], ◌∷◌};
-ghost use Rattle.context.specs.Objects.{objects_of};
-ghost use Rattle.context.specs.Objects.Laws.{whole};
+ghost use Rattle.context.specs.Objects.{objects_of, whole};
 ghost use Rattle.text.specs.Page.{Puts};
 ghost use Rattle.marks_text.specs.Marks.{marks_text};
 ghost use Rattle.closed_lines.specs.Closed.{closed};

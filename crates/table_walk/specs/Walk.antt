@@ -7,9 +7,6 @@ use Rattle.table_kinds.specs.declared.Kind.{Kind}
 use Rattle.line_walk.specs.declared.Walk.{Walk}
 use Rattle.line_walk.specs.declared.Walk.TheVariants.{Failed, At}
 use Rattle.line_walk.specs.Walk.{walk}
-pub mod Laws
-pub mod Passed
-pub mod Lines
 
 -- a walk, and then more lines
 abbrev pub walk_on : Walk → List Kind → List ℕ → Walk

@@ -16,7 +16,6 @@ use Rattle.row_checks.specs.Rows.{row_checks}
 use Rattle.table_text.specs.Table.{text_of}
 use Rattle.table_writing.specs.declared.Written.{Written}
 use Rattle.table_writing.specs.declared.Written.TheVariants.{Bytes, Refused}
-pub mod Laws
 pub mod Names
 pub mod Places
 

@@ -1,8 +1,6 @@
 -- Numbers and sets as text, in bytes (01, "The program"): decimal digits, and one character for each attribute.
 use Rattle.std.specs.Prelude.{List, [], ◌∷◌, ◌++◌, true, false, ℕ, zero, suc, ◌+◌, ◌/◌, ◌%◌, ltb}
 pub mod Digits
-pub mod Laws
-pub mod Cases
 
 -- the decimal digits of a number, no leading zero, at most k of them
 unfoldable pub digits : ℕ → ℕ → List ℕ

@@ -4,8 +4,6 @@ use Rattle.std.specs.Prelude.{List}
 use Rattle.theory.specs.Lists.{All, Pairwise}
 use Rattle.theory.specs.Sets.{Sets}
 use Rattle.theory.specs.Implications.{Implication, Respects, Closed}
-pub mod Minimal
-pub mod Unique
 
 module _ (𝓢 : Sets) where
   infix 4 ◌⊑◌ ◌≺◌

@@ -6,8 +6,6 @@ use Rattle.theory.specs.Lists.{All, Pairwise}
 use Rattle.theory.specs.Sets.{Sets}
 use Rattle.theory.specs.Implications.{Implication}
 use Rattle.theory.specs.Canonical.{Model, Before}
-pub mod Steps
-pub mod Result
 
 module _ (𝓢 : Sets) where
   infix 4 ◌⊑◌ ◌≺◌

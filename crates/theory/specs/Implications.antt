@@ -3,7 +3,6 @@
 use Rattle.std.specs.Prelude.{List}
 use Rattle.theory.specs.Lists.{All}
 use Rattle.theory.specs.Sets.{Sets}
-pub mod Laws
 
 -- an implication (01: a rule): premise, conclusion
 pub record Implication (S : Type 0) : Type 0 where

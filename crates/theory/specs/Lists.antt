@@ -1,6 +1,5 @@
 -- What the theory says of lists: a property of every member, and a relation between every two members in order.
 use mathlib.Core.List.{List, [], ◌∷◌, Memᴰ}
-pub mod Laws
 
 module _ {A : Type 0} where
   -- every member of the list has the property

@@ -14,14 +14,7 @@ use Rattle.written_machine.specs.Reading.{written_reach, written_question}
 use Rattle.output_lines.specs.Lines.{yes_line, no_line}
 use Rattle.closing_lines.specs.Closing.{refusal_line}
 use Rattle.transcript.specs.Output.{Beat, more, last, closing}
-pub mod Cases
 pub mod Along
-pub mod Beats
-pub mod Kept
-pub mod Conclusion
-pub mod Rows
-pub mod Size
-pub mod Program
 
 -- one change of the current set more; a word holds as many as there are sets, so that the limit is never met
 abbrev pub counted : ℕ → ℕ

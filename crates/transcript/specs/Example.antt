@@ -3,7 +3,6 @@
 use Rattle.std.specs.Prelude.{◌≡◌, List, [], ◌∷◌, ℕ}
 use Rattle.table_layout.specs.Examples.{input, unknown}
 use Rattle.transcript.specs.Output.{output}
-pub mod Proof
 
 -- the output, a line of it to a line
 abbrev pub expected : List ℕ

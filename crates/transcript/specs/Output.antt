@@ -15,8 +15,6 @@ use Rattle.table_layout.specs.declared.Opened.{Opened}
 use Rattle.table_layout.specs.declared.Opened.TheVariants.{Found, Refused}
 use Rattle.output_lines.specs.Lines.{yes_line, no_line, list_lines}
 use Rattle.closing_lines.specs.Closing.{end_line, refusal_line}
-pub mod Ends
-pub mod Longer
 
 -- what one beat of the interview writes, and how it goes on: with the next state and the changes of the current set so far
 pub data Beat : Type 0 where

@@ -3,7 +3,6 @@
 use Rattle.std.specs.Prelude.{true, false, List, [], ◌∷◌, ℕ}
 use Rattle.attribute_set.specs.Sets.{inside, full, without}
 use Rattle.context.specs.Objects.{Object}
-pub mod Laws
 
 -- x without what the object marks no, where it marks all of p yes
 unfoldable pub cut_written : ℕ → Object → ℕ → ℕ

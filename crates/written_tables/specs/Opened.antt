@@ -5,11 +5,10 @@ use Rattle.session.specs.Limits.{most_attributes, most_objects}
 use Rattle.table_kinds.specs.declared.Kind.TheVariants.{Name, Marks}
 use Rattle.table_lines.specs.Lines.{skipped}
 use Rattle.table_lines.specs.Pieces.{lines_of}
-use Rattle.table_walk.specs.Walk.Lines.{Fine}
+use Rattle.table_walk.proofs.Walk.Lines.{Fine}
 use Rattle.table_layout.specs.declared.Layout.{Layout}
 use Rattle.table_layout.specs.Layout.{most_bytes, layout}
 use Rattle.table_text.specs.Table.{header_lines}
-pub mod Laws
 
 -- n attributes, so many objects, their names, and the lines of marks
 pub record HasTable (file : List ℕ) (n used : ℕ) (names marks : List (List ℕ)) : Type 0 where

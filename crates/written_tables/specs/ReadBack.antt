@@ -10,7 +10,6 @@ use Rattle.table_layout.specs.Layout.{opened_of}
 use Rattle.table_rows.specs.Rows.{rows_from}
 use Rattle.table_names.specs.Names.{object_name, attribute_name}
 use Rattle.mark_reading.specs.Marks.{reading, words_read}
-pub mod Theorem
 
 -- The reader accepts the file, and finds n attributes, exactly the rows in use of the row words, also word for word in any row words that
 -- have places for them, and the lent names byte for byte: those of the objects, then those of the attributes.

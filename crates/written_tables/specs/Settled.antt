@@ -11,9 +11,6 @@ use Rattle.table_text.specs.Table.{text_of}
 use Rattle.table_writing.specs.declared.Written.{Written}
 use Rattle.table_writing.specs.declared.Written.TheVariants.{Bytes, Refused}
 use Rattle.table_writing.specs.Writing.{WritesFrom}
-pub mod Reading
-pub mod Again
-pub mod Theorem
 
 -- the part of a file from where its names begin up to an offset
 abbrev pub names_up_to : List ℕ → Layout → ℕ → List ℕ

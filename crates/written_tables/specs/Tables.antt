@@ -6,9 +6,6 @@ use Rattle.table_lines.specs.Pieces.{lines_of}
 use Rattle.table_layout.specs.declared.Layout.{Layout}
 use Rattle.table_text.specs.Table.{lines_written, text_of}
 use Rattle.written_tables.specs.ReadBack.{FindsTable}
-pub mod Counts
-pub mod Marks
-pub mod Laws
 
 pub record TextRead (n used : ℕ) (words names : List ℕ) : Type 0 where
   pub table : Layout

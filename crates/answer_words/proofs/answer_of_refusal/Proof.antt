@@ -4,7 +4,7 @@ use Rattle.answer_words.proofs.answer_of_refusal.Statement.{statement}
 use Rattle.answer_words.proofs.answer_of_refusal.Tie as tie
 
 returns : tie.Need-returns
-returns c = c.in_words_lem.ensures
+returns c = c.in_words.ensures
 
-pub answer-of-refusal-spec : {M : Type 1} → statement M
-answer-of-refusal-spec = tie.close (tie.spec (λ c κs. search rules) returns)
+pub answer_of_refusal_spec : {M : Type 1} → statement M
+answer_of_refusal_spec = tie.close (tie.spec (λ c κs. search rules) returns)

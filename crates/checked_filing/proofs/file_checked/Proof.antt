@@ -9,15 +9,15 @@ use lib.ListN.{length, length-set}
 use lib.Dec.{leb}
 use borrow.Author.Rules.{rules}
 use borrow.Author.Tests.{le-leb, lt-leb}
-use Rattle.implication.specs.Pairs.Laws.{length_pairs}
+use Rattle.implication.proofs.Pairs.Laws.{length_pairs}
 use Rattle.context.specs.Objects.{Object, object, contradicts}
 use Rattle.machine.specs.Checks.{State, force, Check, check, bad_row, first_failing, filing_checks}
-use Rattle.machine.specs.Checks.Laws.{passed, failing-append, failing-first, failing-here, failing-later, failing-nothing}
+use Rattle.machine.proofs.Checks.Laws.{passed, failing-append, failing-first, failing-here, failing-later, failing-nothing}
 use Rattle.machine.specs.Calls.{state_of}
 use Rattle.size_checks.specs.declared.Verdict.{Verdict}
 use Rattle.size_checks.specs.Verdicts.{verdict_of}
 use Rattle.session_replies.specs.Answers.{refused_with}
-use Rattle.checked_filing.specs.Checked.Laws.{filed-refused, filed-taken}
+use Rattle.checked_filing.proofs.Checked.Laws.{filed-refused, filed-taken}
 use Rattle.checked_filing.proofs.file_checked.Statement.{statement}
 use Rattle.checked_filing.proofs.file_checked.Tie as tie
 

@@ -1,5 +1,5 @@
 -- The bytes of the line, then the line feed.
-use Rattle.text.specs.Page.Laws.{text-on}
+use Rattle.text.proofs.Page.Laws.{text-on}
 use borrow.Author.Rules.{rules}
 use Rattle.closed_lines.specs.Closed.{closed}
 use Rattle.closed_lines.proofs.put_line.Statement.{statement}
@@ -8,12 +8,10 @@ use Rattle.closed_lines.proofs.put_line.Tie as tie
 returns : tie.Need-returns
 unfolding closed
 returns c =
-    let second = c.before.before in
-    let first = second.before.before.before.before in
-    text-on _ _ _ first.put-bytes.ensures second.put_byte.ensures
+    text-on _ _ _ c.put_bytes-written.ensures c.put_byte.ensures
 
-pub put-line-spec : {M : Type 1} → statement M
-put-line-spec =
+pub put_line_spec : {M : Type 1} → statement M
+put_line_spec =
     tie.close
     (tie.spec
     (λ c κs. search rules)

@@ -7,108 +7,93 @@ use native.Mathlib.Nat.{sub-zero}
 use lib.ListN.{length, take, drop}
 use borrow.Author.Rules.{rules}
 use Rattle.text.specs.Page.{page, text}
-use Rattle.text.specs.Page.Laws.{text-on, text-end, same_size}
+use Rattle.text.proofs.Page.Laws.{text-on, text-end, same_size}
 use Rattle.table_lines.specs.Lines.{bytes_at, after}
 use Rattle.table_lines.specs.Pieces.{lines_of}
 use Rattle.closed_lines.specs.Closed.{closed, first_lines}
-use Rattle.closed_lines.specs.Closed.Laws.{closed_none, closed-cons, first-at, first-none, first-end, LineFound, line-found}
+use Rattle.closed_lines.proofs.Closed.Laws.{closed_none, closed-cons, first-at, first-none, first-end, LineFound, line-found}
 use Rattle.closed_lines.proofs.put_lines.Statement.{statement}
 use Rattle.closed_lines.proofs.put_lines.Tie as tie
 
-abbrev invariant-loop : tie.invariant-loop
+abbrev invariant-loop : tie.invariant-loop-i
 invariant-loop out₀ at bytes count to₀ from₀ i₀ out to from i =
     (i ≤ count)
     × (from ≤ length bytes)
     × (text (page out to) (closed (take (count - i) (lines_of (drop from bytes)))) ≡ text (page out₀ at) (closed (first_lines count bytes)))
 
-abbrev decreases-loop : tie.decreases-loop
+abbrev decreases-loop : tie.decreases-loop-i
 decreases-loop out₀ at bytes count to₀ from₀ i₀ out to from i = count - i
 
 -- the places: the start, before the loop; a turn of it, the line that is found in it, and what the turn writes
-abbrev start : tie.At-loop invariant-loop decreases-loop → tie.Start invariant-loop decreases-loop
-start c = c.before.before.before
+abbrev bytes : tie.At-loop-i invariant-loop decreases-loop → List ℕ
+bytes c = c.args.bytes.now
 
-abbrev turn : tie.After-line-at invariant-loop decreases-loop → tie.At-loop invariant-loop decreases-loop
-turn c = c.before.before.before
+abbrev count : tie.At-loop-i invariant-loop decreases-loop → ℕ
+count c = c.args.count
 
-abbrev line : tie.After-put-line-arg invariant-loop decreases-loop → tie.After-line-at invariant-loop decreases-loop
-line c = c.before.before
-
-abbrev put : tie.After-struct-known2 invariant-loop decreases-loop → tie.After-put-line invariant-loop decreases-loop
-put c = c.before.before.before
-
-abbrev bytes : tie.At-loop invariant-loop decreases-loop → List ℕ
-bytes c = (start c).args.bytes.now
-
-abbrev count : tie.At-loop invariant-loop decreases-loop → ℕ
-count c = (start c).args.count
-
-found : (c : tie.After-line-at invariant-loop decreases-loop) → let t = turn c in LineFound (bytes t) t.loop.from c.line_at.result
-found c = let t = turn c in line-found (bytes t) t.loop.from c.line_at.result c.line_at.ensures t.loop.inv.1
+found : (c : tie.After-line_at-line invariant-loop decreases-loop) → LineFound (bytes c.before.before.before) c.loop-i.from c.line_at-line.result
+found c = line-found (bytes c.before.before.before) c.loop-i.from c.line_at-line.result c.line_at-line.ensures c.loop-i.invariant.1
 
 -- no line is left to write
-ended : (c : tie.At-loop invariant-loop decreases-loop)
-    → let l = c.loop in
+ended : (c : tie.At-loop-i invariant-loop decreases-loop)
+    → let l = c.loop-i in
     take (count c - l.i) (lines_of (drop l.from (bytes c))) ≡ []
-    → let a = (start c).args in
+    → let a = c.args in
     page l.out l.to ≡ text (page a.out.now a.at) (closed (first_lines (count c) (bytes c)))
-ended c e = let l = c.loop in text-end (page l.out l.to) _ (ap closed e ∙ closed_none) ∙ l.invariant.2
+ended c e = let l = c.loop-i in text-end (page l.out l.to) _ (ap closed e ∙ closed_none) ∙ l.invariant.2
 
-loop-holds : tie.Need-loop-init invariant-loop decreases-loop
+loop-holds : tie.Need-loop-i-init invariant-loop decreases-loop
 loop-holds c = (omega arith, omega arith, rw sub-zero refl)
 
-same_length : tie.Need-same-length invariant-loop decreases-loop
-same_length c = same_size _ _ _ _ c.before.before.loop.invariant.2
+same_length : tie.Need-shape_of-out-then-bytes-from invariant-loop decreases-loop
+same_length c = same_size _ _ _ _ c.loop-i.invariant.2
 
-returns : tie.Need-returns invariant-loop decreases-loop
-returns c = let t = c.before.before in ended t (first-end (bytes t) (count t) t.loop.i t.loop.from c.if1.true)
+returns : tie.Need-returns-then-bytes-from invariant-loop decreases-loop
+returns c = ended c.before.before (first-end (bytes c.before.before) (count c.before.before) c.loop-i.i c.loop-i.from c.if-bytes-from.true)
 
-add-end : tie.Need-overflow-add-end invariant-loop decreases-loop
+add-end : tie.Need-overflow_add-end invariant-loop decreases-loop
 add-end c = omega (arith, found c.before)
 
-sub-put-line : tie.Need-overflow-sub-put-line invariant-loop decreases-loop
-sub-put-line c = omega (arith, found (line c))
+sub-put-line : tie.Need-slice_bounds-put_line-count invariant-loop decreases-loop
+sub-put-line c = omega (arith, found c.before.before)
 
-part-put-line-start : tie.Need-slice-bounds-put-line-start invariant-loop decreases-loop
-part-put-line-start c = omega (arith, found (line c))
+part-put-line-start : tie.Need-slice_bounds-put_line-start invariant-loop decreases-loop
+part-put-line-start c = omega (arith, found c.before.before)
 
-part-put-line-end : tie.Need-slice-bounds-put-line-end invariant-loop decreases-loop
-part-put-line-end c = omega (arith, found (line c))
+part-put-line-end : tie.Need-slice_bounds-put_line-end invariant-loop decreases-loop
+part-put-line-end c = omega (arith, found c.before.before)
 
-add-from : tie.Need-overflow-add-from invariant-loop decreases-loop
-add-from c = omega (arith, found (line (put c).before.before))
+add-from : tie.Need-overflow_add-from invariant-loop decreases-loop
+add-from c = omega (arith, found c.before.before.before.before.before.before.before)
 
-loop-again : tie.Need-loop-preserved invariant-loop decreases-loop
+loop-again : tie.Need-loop-i-preserved invariant-loop decreases-loop
 loop-again c =
-    let p = put c in
-    let d = line p.before.before in
-    let f = found d in
-    let t = turn d in
-    let l = t.loop in
-    let bs = bytes t in
+    let f = found c.before.before.before.before.before.before.before in
+    let l = c.loop-i in
+    let bs = bytes c.before.before.before.before.before.before.before.before.before.before in
     let here = bytes_at bs l.from in
-    let rest = take (count t - (l.i + 1)) (lines_of (drop (after bs l.from) bs)) in
-    let k : l.from + d.line_at.result.size - l.from ≡ d.line_at.result.size = omega arith in
-    let e : take (l.from + d.line_at.result.size - l.from) (drop l.from bs) ≡ here =
+    let rest = take (count c.before.before.before.before.before.before.before.before.before.before - (l.i + 1)) (lines_of (drop (after bs l.from) bs)) in
+    let k : l.from + c.line_at-line.result.size - l.from ≡ c.line_at-line.result.size = omega arith in
+    let e : take (l.from + c.line_at-line.result.size - l.from) (drop l.from bs) ≡ here =
     ap (λ (m : ℕ). take m (drop l.from bs)) k ∙ f.line in
-    let written = p.put-line.ensures ∙ ap (λ b. text (page l.out l.to) (closed (b ∷ []))) e in
+    let written = c.put_line-to.ensures ∙ ap (λ b. text (page l.out l.to) (closed (b ∷ []))) e in
     rw f.next (
       omega arith,
       f.inside,
       text-on (page l.out l.to) (closed (here ∷ [])) (closed rest) written refl
           ∙ ap (text (page l.out l.to)) (sym (closed-cons here rest)
-          ∙ sym (ap closed (first-at bs (count t) l.i l.from (omega arith) d.before.if1.left)))
-          ∙ l.inv.2,
+          ∙ sym (ap closed (first-at bs (count c.before.before.before.before.before.before.before.before.before.before) l.i l.from (omega arith) c.if-bytes-from.false)))
+          ∙ l.invariant.2,
     )
 
-same-length-2 : tie.Need-same-length-2 invariant-loop decreases-loop
-same-length-2 c = same_size _ _ _ _ c.before.loop.invariant.2
+same-length-2 : tie.Need-shape_of-out invariant-loop decreases-loop
+same-length-2 c = same_size _ _ _ _ c.loop-i.invariant.2
 
-returns-2 : tie.Need-returns-2 invariant-loop decreases-loop
-returns-2 c = let t = c.before in ended t (first-none (bytes t) (count t) t.loop.i t.loop.from c.loop-test.false)
+returns-2 : tie.Need-returns invariant-loop decreases-loop
+returns-2 c = ended c.before (first-none (bytes c.before) (count c.before) c.loop-i.i c.loop-i.from c.loop-i-test.false)
 
-pub put-lines-spec : {M : Type 1} → statement M
-put-lines-spec =
+pub put_lines_spec : {M : Type 1} → statement M
+put_lines_spec =
     tie.close
     (tie.spec
     invariant-loop

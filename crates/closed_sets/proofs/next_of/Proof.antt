@@ -10,107 +10,87 @@ use lib.Bits.{bit_and}
 use Rattle.theory.specs.Implications.{Implication}
 use Rattle.attribute_set.specs.Sets.{full, without}
 use Rattle.attribute_set.specs.Lectic.{raise}
-use Rattle.attribute_set.specs.Lectic.Laws.{raise-lt}
+use Rattle.attribute_set.proofs.Lectic.Laws.{raise-lt}
 use Rattle.implication.specs.Closure.{in_force, closure}
 use Rattle.implication.specs.Until.{CloseUntil}
 use Rattle.next_set.specs.Next.{candidate, next_below, next}
-use Rattle.next_set.specs.Next.Laws.{next-passed}
-use Rattle.next_set.specs.Next.Tested.{next-taken, next-left}
+use Rattle.next_set.proofs.Next.Laws.{next-passed}
+use Rattle.next_set.proofs.Next.Tested.{next-taken, next-left}
 use Rattle.closed_sets.proofs.next_of.Statement.{statement}
 use Rattle.closed_sets.proofs.next_of.Tie as tie
 
-abbrev invariant-loop : tie.invariant-loop
+abbrev invariant-loop : tie.invariant-loop-j
 invariant-loop background list count n set j₀ j =
     let rs = in_force background list count in (j ≤ 64) × (next_below rs set j ≡ next rs (min n 64) set)
 
-abbrev decreases-loop : tie.decreases-loop
+abbrev decreases-loop : tie.decreases-loop-j
 decreases-loop background list count n set j₀ j = j
 
--- ---- places in the code, seen from a turn of the loop
-
-abbrev start : tie.In-loop invariant-loop decreases-loop → tie.Start invariant-loop decreases-loop
-start c = let known = c.before.before in known.before.before.before
-
 -- the implications in force
-abbrev in_use : tie.In-loop invariant-loop decreases-loop → List (Implication ℕ)
-in_use c = let a = (start c).args in in_force a.background.now a.list.now a.count
+abbrev in_use : tie.In-loop-j invariant-loop decreases-loop → List (Implication ℕ)
+in_use c = let a = c.args in in_force a.background.now a.list.now a.count
 
-abbrev set : tie.In-loop invariant-loop decreases-loop → ℕ
-set c = (start c).args.set
+abbrev set : tie.In-loop-j invariant-loop decreases-loop → ℕ
+set c = c.args.set
 
 -- the attribute that the turn looks at
-abbrev at : tie.In-loop invariant-loop decreases-loop → ℕ
-at c = c.before.loop.j - 1
-
--- the turn, the test of the attribute, and the difference, seen from behind the candidate
-abbrev tested : tie.After-close-until invariant-loop decreases-loop → tie.Then1 invariant-loop decreases-loop
-tested c = c.before.before.before.before
-
-abbrev turn : tie.After-close-until invariant-loop decreases-loop → tie.In-loop invariant-loop decreases-loop
-turn c = (tested c).before.before
-
-abbrev cut : tie.After-close-until invariant-loop decreases-loop → tie.After-difference invariant-loop decreases-loop
-cut c = c.before.before
+abbrev at : tie.In-loop-j invariant-loop decreases-loop → ℕ
+at c = c.loop-j.j - 1
 
 -- ---- a turn
 
 -- what is left of the search is what is to be returned
-left : (c : tie.In-loop invariant-loop decreases-loop) → next_below (in_use c) (set c) (suc (at c)) ≡ next (in_use c) (min (start c).args.n 64) (set c)
+left : (c : tie.In-loop-j invariant-loop decreases-loop) → next_below (in_use c) (set c) (suc (at c)) ≡ next (in_use c) (min c.args.n 64) (set c)
 left c =
-    let e : suc (at c) ≡ c.before.loop.j = omega (arith, c.loop-test.true) in
-    ap (next_below (in_use c) (set c)) e ∙ c.before.loop.invariant.1
+    let e : suc (at c) ≡ c.loop-j.j = omega (arith, c.loop-j-test.true) in
+    ap (next_below (in_use c) (set c)) e ∙ c.loop-j.invariant.1
 
 -- the attributes whose gain gives the candidate up
-stop : (c : tie.After-close-until invariant-loop decreases-loop) → (cut c).difference.result ≡ without (full (at (turn c))) (set (turn c))
+stop : (c : tie.After-close_until-found invariant-loop decreases-loop) → c.difference-stop.result ≡ without (full (at c.before.before.before.before.before.before)) (set c.before.before.before.before.before.before)
 stop c =
-    let d = turn c in
-    let e : min (at d) 64 ≡ at d = omega (arith, d.before.loop.inv.0) in
-    (cut c).difference.ensures ∙ ap (λ m. without m (set d)) ((cut c).before.full-set.ensures ∙ ap full e)
+    let e : min (at c.before.before.before.before.before.before) 64 ≡ at c.before.before.before.before.before.before = omega (arith, c.loop-j.invariant.0) in
+    c.difference-stop.ensures ∙ ap (λ m. without m (set c.before.before.before.before.before.before)) (c.full_set.ensures ∙ ap full e)
 
 -- what the call of close_until gives
-given : (c : tie.After-close-until invariant-loop decreases-loop)
-    → let d = turn c in CloseUntil (candidate (in_use d) (set d) (at d)) (without (full (at d)) (set d)) c.close-until.result
+given : (c : tie.After-close_until-found invariant-loop decreases-loop)
+    → CloseUntil (candidate (in_use c.before.before.before.before.before.before) (set c.before.before.before.before.before.before) (at c.before.before.before.before.before.before)) (without (full (at c.before.before.before.before.before.before)) (set c.before.before.before.before.before.before)) c.close_until-found.result
 given c =
-    let d = turn c in
-    let l : suc (at d) ≤ 64 = omega (arith, d.loop-test.taken, d.before.loop.inv.0) in
-    let e : c.before.raised.result ≡ raise (set d) (at d) =
-    c.before.raised.ensures ∙ mod-eq_of_lt (lt_of_lt_of_le (raise-lt (set d) (at d)) (pow_mono l)) in
-    subst (λ s. CloseUntil (closure (in_use d) s) (without (full (at d)) (set d)) c.close-until.result) e
-    (subst (λ s. CloseUntil (closure (in_use d) c.before.raised.result) s c.close-until.result) (stop c) c.close-until.ensures)
+    let l : suc (at c.before.before.before.before.before.before) ≤ 64 = omega (arith, c.loop-j-test.true, c.loop-j.invariant.0) in
+    let e : c.raised-raised.result ≡ raise (set c.before.before.before.before.before.before) (at c.before.before.before.before.before.before) =
+    c.raised-raised.ensures ∙ mod-eq_of_lt (lt_of_lt_of_le (raise-lt (set c.before.before.before.before.before.before) (at c.before.before.before.before.before.before)) (pow_mono l)) in
+    subst (λ s. CloseUntil (closure (in_use c.before.before.before.before.before.before) s) (without (full (at c.before.before.before.before.before.before)) (set c.before.before.before.before.before.before)) c.close_until-found.result) e
+    (subst (λ s. CloseUntil (closure (in_use c.before.before.before.before.before.before) c.raised-raised.result) s c.close_until-found.result) (stop c) c.close_until-found.ensures)
 
-loop-holds : tie.Need-loop-init invariant-loop decreases-loop
-loop-holds c = (omega (arith, c.smaller.ensures), ap (next_below _ _) c.smaller.ensures)
+loop-holds : tie.Need-loop-j-init invariant-loop decreases-loop
+loop-holds c = (omega (arith, c.smaller-j.ensures), ap (next_below _ _) c.smaller-j.ensures)
 
-returns : tie.Need-returns invariant-loop decreases-loop
+returns : tie.Need-returns-then-found-stop-eq0 invariant-loop decreases-loop
 returns c =
-    let g = c.before in
-    let d = turn g in
-    sym (next-taken (in_use d) (set d) (at d) (given g) (sym (tested g).before.digit-of.ensures ∙ (tested g).if1.true)
-    (ap (bit_and g.close-until.result) (sym (stop g)) ∙ c.if2.true)) ∙ left d
+    sym (next-taken (in_use c.before.before.before.before.before.before.before) (set c.before.before.before.before.before.before.before) (at c.before.before.before.before.before.before.before) (given c.before) (sym c.digit_of.ensures ∙ c.if-digit_of-eq0.true)
+    (ap (bit_and c.close_until-found.result) (sym (stop c.before)) ∙ c.if-found-stop-eq0.true)) ∙ left c.before.before.before.before.before.before.before
 
-loop-again : tie.Need-loop-preserved invariant-loop decreases-loop
+loop-again : tie.Need-loop-j-preserved-else-found-stop-eq0 invariant-loop decreases-loop
 loop-again c =
-    let g = c.before in
-    let d = turn g in (
+    (
       omega arith,
-      sym (next-left (in_use d) (set d) (at d) (given g) (λ e. c.if2.false (ap (bit_and g.close-until.result) (stop g) ∙ e))) ∙ left d,
+      sym (next-left (in_use c.before.before.before.before.before.before.before) (set c.before.before.before.before.before.before.before) (at c.before.before.before.before.before.before.before) (given c.before) (λ e. c.if-found-stop-eq0.false (ap (bit_and c.close_until-found.result) (stop c.before) ∙ e))) ∙ left c.before.before.before.before.before.before.before,
     )
 
-loop-again-2 : tie.Need-loop-preserved-2 invariant-loop decreases-loop
+loop-again-2 : tie.Need-loop-j-preserved invariant-loop decreases-loop
 loop-again-2 c =
-    let d = c.before.before in (
+    (
       omega arith,
-      sym (next-passed (in_use d) (set d) (at d) (λ f. c.if1.false (c.before.digit-of.ensures ∙ f.lacks))) ∙ left d,
+      sym (next-passed (in_use c.before.before) (set c.before.before) (at c.before.before) (λ f. c.if-digit_of-eq0.false (c.digit_of.ensures ∙ f.lacks))) ∙ left c.before.before,
     )
 
-returns-2 : tie.Need-returns-2 invariant-loop decreases-loop
+returns-2 : tie.Need-returns invariant-loop decreases-loop
 unfolding next_below
 returns-2 c =
-    let e : c.before.loop.j ≡ 0 = omega arith in
-    ap (next_below _ _) (sym e) ∙ c.before.loop.invariant.1
+    let e : c.loop-j.j ≡ 0 = omega arith in
+    ap (next_below _ _) (sym e) ∙ c.loop-j.invariant.1
 
-pub next-of-spec : {M : Type 1} → statement M
-next-of-spec =
+pub next_of_spec : {M : Type 1} → statement M
+next_of_spec =
     tie.close
     (tie.spec
     invariant-loop

@@ -5,7 +5,7 @@ use Rattle.closures.proofs.closure_of.Statement.{statement}
 use Rattle.closures.proofs.closure_of.Tie as tie
 
 returns : tie.Need-returns
-returns c = c.close-until.ensures.whole (and_zero_r c.close-until.result)
+returns c = c.close_until.ensures.whole (and_zero_r c.close_until.result)
 
-pub closure-of-spec : {M : Type 1} → statement M
-closure-of-spec = tie.close (tie.spec (λ c κs. search rules) returns)
+pub closure_of_spec : {M : Type 1} → statement M
+closure_of_spec = tie.close (tie.spec (λ c κs. search rules) returns)

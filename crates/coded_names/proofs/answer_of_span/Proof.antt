@@ -1,7 +1,7 @@
 -- No bytes are refusal 3.
 use mathlib.Core.Path.{◌∙◌}
 use borrow.Author.Rules.{rules}
-use Rattle.coded_tables.specs.Tables.Laws.{no_name, name-found}
+use Rattle.coded_tables.proofs.Tables.Laws.{no_name, name-found}
 use Rattle.coded_names.proofs.answer_of_span.Statement.{statement}
 use Rattle.coded_names.proofs.answer_of_span.Tie as tie
 

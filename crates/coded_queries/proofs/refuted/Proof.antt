@@ -1,6 +1,6 @@
 -- The call's answer is the machine's, and its code is the code of that.
 use borrow.Author.Rules.{rules}
-use Rattle.machine.specs.Calls.Laws.{said}
+use Rattle.machine.proofs.Calls.Laws.{said}
 use Rattle.answer_words.specs.Codes.{code_of}
 use Rattle.coded_queries.proofs.refuted.Statement.{statement}
 use Rattle.coded_queries.proofs.refuted.Tie as tie

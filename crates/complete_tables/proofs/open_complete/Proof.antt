@@ -5,26 +5,21 @@ use Rattle.complete_tables.specs.Complete.{complete_of}
 use Rattle.complete_tables.proofs.open_complete.Statement.{statement}
 use Rattle.complete_tables.proofs.open_complete.Tie as tie
 
-complete-from-requires : tie.Need-complete-from-requires
+complete-from-requires : tie.Need-complete_from-requires
 complete-from-requires c κs =
-    let o = c.before.before.before in
-    sym o.«open».ensures ∙ c.before.opened.given.1
+    sym c.before.«open».ensures ∙ c.in-Found.is
 
-returns : tie.Need-returns
+returns : tie.Need-returns-in-Found
 returns c =
-    let d = c.before.before in
-    let o = d.before.before in
-    c.complete-from.ensures
-    ∙ ap (complete_of o.before.before.args.file.now) (sym d.opened.given.1 ∙ o.«open».ensures)
+    c.complete_from.ensures
+    ∙ ap (complete_of c.args.file.now) (sym c.in-Found.is ∙ c.before.before.«open».ensures)
 
-returns-2 : tie.Need-returns-2
+returns-2 : tie.Need-returns-in-Refused
 returns-2 c =
-    let d = c.before in
-    let o = d.before.before in
-    ap (complete_of o.before.before.args.file.now) (sym d.opened2.given.1 ∙ o.«open».ensures)
+    ap (complete_of c.args.file.now) (sym c.in-Refused.is ∙ c.before.«open».ensures)
 
-pub open-complete-spec : {M : Type 1} → statement M
-open-complete-spec =
+pub open_complete_spec : {M : Type 1} → statement M
+open_complete_spec =
     tie.close
     (tie.spec
     (λ c κs. search rules)

@@ -7,7 +7,7 @@ use Rattle.contradictions.proofs.contradiction.Tie as tie
 
 returns : tie.Need-returns
 unfolding contradicts meets
-returns c = rw c.closure-with.ensures
+returns c = rw c.closure_with.ensures
 
-pub contradiction-spec : {M : Type 1} → statement M
-contradiction-spec = tie.close (tie.spec (λ c κs. search rules) returns)
+pub contradiction_spec : {M : Type 1} → statement M
+contradiction_spec = tie.close (tie.spec (λ c κs. search rules) returns)

@@ -10,7 +10,7 @@ use borrow.Author.Rules.{rules}
 use Rattle.implication.specs.Closure.{implication, in_force}
 use Rattle.context.specs.Places.{lowest}
 use Rattle.context.specs.Objects.{Object, object, objects_of, contradicts}
-use Rattle.context.specs.Places.Search.{pair_found, pair-passed, pair-none}
+use Rattle.context.proofs.Places.Search.{pair_found, pair-passed, pair-none}
 use Rattle.contradictions.proofs.contradiction_among.Statement.{statement}
 use Rattle.contradictions.proofs.contradiction_among.Tie as tie
 
@@ -18,65 +18,53 @@ use Rattle.contradictions.proofs.contradiction_among.Tie as tie
 abbrev test : List ℕ → List ℕ → ℕ → ℕ → ℕ → Object → Bool
 test background list rules premise conclusion = contradicts (in_force background list rules ++ (implication premise conclusion ∷ []))
 
-abbrev invariant-loop : tie.invariant-loop
+abbrev invariant-loop : tie.invariant-loop-i
 invariant-loop rows count list rules background premise conclusion i₀ i =
     (i ≤ count)
     × (i + lowest (test background list rules premise conclusion) (objects_of (count - i) (drop (i * 2) rows))
     ≡ lowest (test background list rules premise conclusion) (objects_of count rows))
 
-abbrev decreases-loop : tie.decreases-loop
+abbrev decreases-loop : tie.decreases-loop-i
 decreases-loop rows count list rules background premise conclusion i₀ i = count - i
-
--- the turn of the loop in which a row is tested, and the start
-abbrev turn : tie.After-contradiction invariant-loop decreases-loop → tie.In-loop invariant-loop decreases-loop
-turn c = c.before.before.before
-
-abbrev start : tie.In-loop invariant-loop decreases-loop → tie.Start invariant-loop decreases-loop
-start c =
-    let d = c.before.before in
-    d.before.before.before
 
 -- the test of the row
 tested : (c : tie.After-contradiction invariant-loop decreases-loop)
-    → let i = (turn c).before.loop.i in
-    let a = (start (turn c)).args in
+    → let i = c.loop-i.i in
+    let a = c.args in
     test a.background.now a.list.now a.rules a.premise a.conclusion (object (get_or a.rows.now (i * 2) 0) (get_or a.rows.now (i * 2 + 1) 0))
     ≡ c.contradiction.result
 tested c = sym c.contradiction.ensures
 
-loop-holds : tie.Need-loop-init invariant-loop decreases-loop
+loop-holds : tie.Need-loop-i-init invariant-loop decreases-loop
 loop-holds c = (omega arith, rw sub-zero (omega arith))
 
-returns : tie.Need-returns invariant-loop decreases-loop
+returns : tie.Need-returns-then-contradiction invariant-loop decreases-loop
 returns c =
-    let t = turn c.before in
-    let l = t.before.loop in
-    let a = (start t).args in
+    let l = c.loop-i in
+    let a = c.args in
     let f = test a.background.now a.list.now a.rules a.premise a.conclusion in
     let h : l.i < a.count = omega arith in
-    omega (arith, l.inv.1, pair_found f object a.rows.now a.count l.i h (tested c.before ∙ c.if1.true))
+    omega (arith, l.invariant.1, pair_found f object a.rows.now a.count l.i h (tested c.before ∙ c.if-contradiction.true))
 
-loop-again : tie.Need-loop-preserved invariant-loop decreases-loop
+loop-again : tie.Need-loop-i-preserved invariant-loop decreases-loop
 loop-again c =
-    let t = turn c.before in
-    let l = t.before.loop in
-    let a = (start t).args in
+    let l = c.loop-i in
+    let a = c.args in
     let f = test a.background.now a.list.now a.rules a.premise a.conclusion in
     let h : l.i < a.count = omega arith in (
       omega arith,
-      omega (arith, l.inv.1, pair-passed f object a.rows.now a.count l.i h (tested c.before ∙ c.if1.false)),
+      omega (arith, l.invariant.1, pair-passed f object a.rows.now a.count l.i h (tested c.before ∙ c.if-contradiction.false)),
     )
 
-returns-2 : tie.Need-returns-2 invariant-loop decreases-loop
+returns-2 : tie.Need-returns invariant-loop decreases-loop
 returns-2 c =
-    let l = c.before.loop in
-    let d = c.before.before in
-    let a = d.before.before.before.args in
+    let l = c.loop-i in
+    let a = c.args in
     let f = test a.background.now a.list.now a.rules a.premise a.conclusion in
     omega (arith, l.invariant.1, pair-none f object a.rows.now a.count l.i (omega arith))
 
-pub contradiction-among-spec : {M : Type 1} → statement M
-contradiction-among-spec =
+pub contradiction_among_spec : {M : Type 1} → statement M
+contradiction_among_spec =
     tie.close
     (tie.spec
     invariant-loop

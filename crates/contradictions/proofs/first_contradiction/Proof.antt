@@ -5,43 +5,39 @@ use native.Mathlib.Omega.{arith}
 use borrow.Author.Rules.{rules}
 use Rattle.implication.specs.Closure.{in_force_with}
 use Rattle.context.specs.Places.{lowest}
-use Rattle.context.specs.Objects.{Object, objects_of, contradicts}
-use Rattle.context.specs.Objects.Laws.{whole, lowest-whole, lowest-none}
-use Rattle.contradictions.specs.Contradictions.Laws.{blank-idle}
+use Rattle.context.specs.Objects.{Object, objects_of, contradicts, whole}
+use Rattle.context.proofs.Objects.Laws.{lowest-whole, lowest-none}
+use Rattle.contradictions.proofs.Contradictions.Laws.{blank-idle}
 use Rattle.contradictions.proofs.first_contradiction.Statement.{statement}
 use Rattle.contradictions.proofs.first_contradiction.Tie as tie
 
-abbrev start : tie.After-smaller → tie.Start
-start c = c.before.before.before.before
-
-abbrev test : tie.After-smaller → Object → Bool
-test c = let a = (start c).args in contradicts (in_force_with a.background.now a.list.now a.rules a.premise a.conclusion)
+abbrev test : tie.After-smaller-whole → Object → Bool
+test c = let a = c.args in contradicts (in_force_with a.background.now a.list.now a.rules a.premise a.conclusion)
 
 -- what the search among the whole rows gives
-searched : (c : tie.After-contradiction-among)
-    → let d = c.before in
-    c.contradiction-among.result ≡ lowest (test d) (objects_of d.smaller.result (start d).args.rows.now)
-searched c = c.contradiction-among.ensures
+searched : (c : tie.After-contradiction_among-place)
+    → c.contradiction_among-place.result ≡ lowest (test c.before) (objects_of c.smaller-whole.result c.args.rows.now)
+searched c = c.contradiction_among-place.ensures
 
-found : (c : tie.After-contradiction-among)
-    → let d = c.before in
-    let a = (start d).args in
-    c.contradiction-among.result ≡ lowest (test d) (objects_of (whole a.count a.rows.now) a.rows.now)
+found : (c : tie.After-contradiction_among-place)
+    → let a = c.args in
+    c.contradiction_among-place.result ≡ lowest (test c.before) (objects_of (whole a.count a.rows.now) a.rows.now)
 found c =
-    let d = c.before in
-    searched c ∙ ap (λ k. lowest (test d) (objects_of k (start d).args.rows.now)) d.smaller.ensures
+    searched c ∙ ap (λ k. lowest (test c.before) (objects_of k c.args.rows.now)) c.smaller-whole.ensures
 
-returns : tie.Need-returns
+returns : tie.Need-returns-then-place-whole
 returns c =
-    let d = c.before.before in
-    let a = (start d).args in
-    found c.before ∙ sym (lowest-whole (test d) (blank-idle _) a.count a.rows.now (omega (arith, found c.before, d.smaller.ensures)))
+    let a = c.args in
+    found c.before ∙ sym (lowest-whole (test c.before.before) (blank-idle _) a.count a.rows.now (omega (arith, found c.before, c.smaller-whole.ensures)))
 
-returns-2 : tie.Need-returns-2
+returns-2 : tie.Need-returns-else-place-whole
 returns-2 c =
-    let d = c.before.before in
-    let a = (start d).args in
-    sym (lowest-none (test d) (blank-idle _) a.count a.rows.now (omega (arith, found c.before, d.smaller.ensures)))
+    let a = c.args in
+    sym (lowest-none (test c.before.before) (blank-idle _) a.count a.rows.now (omega (arith, found c.before, c.smaller-whole.ensures)))
 
-pub first-contradiction-spec : {M : Type 1} → statement M
-first-contradiction-spec = tie.close (tie.spec (λ c κs. search rules) (λ c κs. search rules) returns returns-2)
+pub first_contradiction_spec : {M : Type 1} → statement M
+first_contradiction_spec = tie.close (tie.spec
+    (λ c κs. search rules)
+    (λ c κs. search rules)
+    returns
+    returns-2)

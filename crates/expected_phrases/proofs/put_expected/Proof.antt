@@ -10,17 +10,14 @@ use Rattle.expected_phrases.proofs.put_expected.Tie as tie
 returns : tie.Need-returns
 unfolding bytes joined
 returns c =
-    let d = c.before.before in
-    let e = d.before.before.before in
-    let a = e.before.before.args in
-    d.put-line.ensures ∙ ap (λ k. text (page a.out.now a.at) (line_number k phrases)) e.above.ensures
+    let a = c.args in
+    c.put_line.ensures ∙ ap (λ k. text (page a.out.now a.at) (line_number k phrases)) c.above-line.ensures
 
-pub put-expected-spec : {M : Type 1} → statement M
-put-expected-spec =
+pub put_expected_spec : {M : Type 1} → statement M
+put_expected_spec =
     tie.close
     (tie.spec
     (λ c κs. search rules)
-    (λ c. search rules)
     (λ c κs. search rules)
     (λ c. search rules)
     returns)

@@ -5,10 +5,10 @@ use lib.ListN.{length}
 use lib.Seq.{length-take-le}
 use Rattle.table_layout.specs.Layout.{input_most}
 use Rattle.transcript.specs.Output.{output}
-use Rattle.transcript.specs.Output.Longer.{output-first}
+use Rattle.transcript.proofs.Output.Longer.{output-first}
 use Rattle.handed_output.specs.Handing.{WritesIn}
-use Rattle.standard_streams.specs.Answers.Laws.{input-answered}
-use Rattle.standard_streams.specs.First.{first-bytes}
+use Rattle.standard_streams.proofs.Answers.Laws.{input-answered}
+use Rattle.standard_streams.proofs.First.{first-bytes}
 use borrow.Author.Rules.{rules}
 use Rattle.explore_answers.proofs.answer.Statement.{statement}
 use Rattle.explore_answers.proofs.answer.Tie as tie

@@ -6,7 +6,7 @@ use lib.Seq.{length-take-le}
 use Rattle.text.specs.Page.{page, text}
 use Rattle.table_layout.specs.Layout.{input_most}
 use Rattle.refusal_reports.specs.Reports.{explanation}
-use Rattle.standard_streams.specs.First.{first-bytes}
+use Rattle.standard_streams.proofs.First.{first-bytes}
 use borrow.Author.Rules.{rules}
 use Rattle.explore_answers.proofs.explain.Statement.{statement}
 use Rattle.explore_answers.proofs.explain.Tie as tie

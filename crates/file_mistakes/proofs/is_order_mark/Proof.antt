@@ -4,11 +4,11 @@ use borrow.Author.Rules.{rules}
 use Rattle.file_mistakes.proofs.is_order_mark.Statement.{statement}
 use Rattle.file_mistakes.proofs.is_order_mark.Tie as tie
 
-returns : tie.Need-returns
-returns c = rw (sym c.before.are-bytes.ensures ∙ c.if1.true)
+returns : tie.Need-returns-then-are_bytes
+returns c = rw (sym c.are_bytes.ensures ∙ c.if-are_bytes.true)
 
-returns-2 : tie.Need-returns-2
-returns-2 c = rw (sym c.before.are-bytes.ensures ∙ c.if1.false)
+returns-2 : tie.Need-returns
+returns-2 c = rw (sym c.are_bytes.ensures ∙ c.if-are_bytes.false)
 
-pub is-order-mark-spec : {M : Type 1} → statement M
-is-order-mark-spec = tie.close (tie.spec (λ c κs. search rules) returns returns-2)
+pub is_order_mark_spec : {M : Type 1} → statement M
+is_order_mark_spec = tie.close (tie.spec (λ c κs. search rules) returns returns-2)

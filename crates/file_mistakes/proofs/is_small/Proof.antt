@@ -4,22 +4,19 @@ use borrow.Author.Rules.{rules}
 use Rattle.file_mistakes.proofs.is_small.Statement.{statement}
 use Rattle.file_mistakes.proofs.is_small.Tie as tie
 
-returns : tie.Need-returns
-returns c = rw (sym c.before.are-bytes.ensures ∙ c.if1.true)
+returns : tie.Need-returns-then-are_bytes
+returns c = rw (sym c.are_bytes.ensures ∙ c.if-are_bytes.true)
 
-returns-2 : tie.Need-returns-2
+returns-2 : tie.Need-returns-then-are_bytes-2
 returns-2 c =
-    let d = c.before.before in
-    rw (sym d.before.are-bytes.ensures ∙ d.if1.false, sym c.before.are-bytes2.ensures ∙ c.if2.true)
+    rw (sym c.are_bytes.ensures ∙ c.if-are_bytes.false, sym c.are_bytes-2.ensures ∙ c.if-are_bytes-2.true)
 
-returns-3 : tie.Need-returns-3
+returns-3 : tie.Need-returns
 returns-3 c =
-    let d = c.before in
-    let e = d.before.before in
-    rw (sym e.before.are-bytes.ensures ∙ e.if1.false, sym d.before.are-bytes2.ensures ∙ d.if2.false) c.are-bytes3.ensures
+    rw (sym c.are_bytes.ensures ∙ c.if-are_bytes.false, sym c.are_bytes-2.ensures ∙ c.if-are_bytes-2.false) c.are_bytes-3.ensures
 
-pub is-small-spec : {M : Type 1} → statement M
-is-small-spec =
+pub is_small_spec : {M : Type 1} → statement M
+is_small_spec =
     tie.close
     (tie.spec
     (λ c κs. search rules)

@@ -6,7 +6,7 @@ use Rattle.file_mistakes.proofs.put_mistake.Tie as tie
 
 returns : tie.Need-returns
 unfolding bytes joined
-returns c = c.before.before.put-line.ensures
+returns c = c.put_line.ensures
 
-pub put-mistake-spec : {M : Type 1} → statement M
-put-mistake-spec = tie.close (tie.spec (λ c. search rules) (λ c κs. search rules) (λ c. search rules) returns)
+pub put_mistake_spec : {M : Type 1} → statement M
+put_mistake_spec = tie.close (tie.spec (λ c κs. search rules) (λ c. search rules) returns)

@@ -8,7 +8,7 @@ use Rattle.following.proofs.follows_from.Tie as tie
 
 returns : tie.Need-returns
 unfolding follows inside
-returns c = ap (inside c.before.before.before.args.conclusion) c.closure-of.ensures
+returns c = ap (inside c.args.conclusion) c.closure_of.ensures
 
-pub follows-from-spec : {M : Type 1} → statement M
-follows-from-spec = tie.close (tie.spec (λ c κs. search rules) returns)
+pub follows_from_spec : {M : Type 1} → statement M
+follows_from_spec = tie.close (tie.spec (λ c κs. search rules) returns)

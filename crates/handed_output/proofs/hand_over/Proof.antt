@@ -8,29 +8,26 @@ use Rattle.handed_output.proofs.hand_over.Statement.{statement}
 use Rattle.handed_output.proofs.hand_over.Tie as tie
 
 -- where no write has failed
-abbrev going : tie.After-write-all → tie.Else2
-going c = let fits = c.before.before in fits.before.before
+returns : tie.Need-returns-then-to-from
+returns c = record { on = λ e le in_size fits. (let t = c.if-to-from.true in omega (arith, t, le)); ended = λ e. refl }
 
-returns : tie.Need-returns
-returns c = record { on = λ e le in_size fits. (let t = c.if1.true in omega (arith, t, le)); ended = λ e. refl }
+returns-2 : tie.Need-returns-then-not-unbroken
+returns-2 c = record { on = λ e le in_size fits. absurd (true≢false (sym e ∙ c.if-not-unbroken.true)); ended = λ e. refl }
 
-returns-2 : tie.Need-returns-2
-returns-2 c = record { on = λ e le in_size fits. absurd (true≢false (sym e ∙ not-true _ c.if2.true)); ended = λ e. refl }
+returns-3 : tie.Need-returns-then-out-to
+returns-3 c = record { on = λ e le in_size fits. absurd (omega (arith, c.if-out-to.true, in_size)); ended = λ e. refl }
 
-returns-3 : tie.Need-returns-3
-returns-3 c = record { on = λ e le in_size fits. absurd (omega (arith, c.if3.true, in_size)); ended = λ e. refl }
+returns-4 : tie.Need-returns-then-counted-to
+returns-4 c = record { on = λ e le in_size fits. absurd (omega (arith, c.if-counted-to.true, fits)); ended = λ e. refl }
 
-returns-4 : tie.Need-returns-4
-returns-4 c = record { on = λ e le in_size fits. absurd (omega (arith, c.if4.true, fits)); ended = λ e. refl }
-
-returns-5 : tie.Need-returns-5
+returns-5 : tie.Need-returns
 returns-5 c = record {
   on = λ e le in_size fits. search rules;
-  ended = λ e. absurd (true≢false (sym (not-false _ (going c).if2.false) ∙ e));
+  ended = λ e. absurd (true≢false (sym c.if-not-unbroken.false ∙ e));
 }
 
-pub hand-over-spec : {M : Type 1} → statement M
-hand-over-spec =
+pub hand_over_spec : {M : Type 1} → statement M
+hand_over_spec =
     tie.close
     (tie.spec
     returns

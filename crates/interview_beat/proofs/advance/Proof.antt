@@ -1,7 +1,7 @@
 -- The code takes the cases of the beat in their order.
 use Rattle.text.specs.Page.{page}
-use Rattle.interview_replies.specs.Holding.Laws.{leaves-same}
-use Rattle.interview_beat.specs.Beat.Laws.{beat-end, beat-reply, beat-move}
+use Rattle.interview_replies.proofs.Holding.Laws.{leaves-same}
+use Rattle.interview_beat.proofs.Beat.Laws.{beat-end, beat-reply, beat-move}
 use borrow.Author.Rules.{rules}
 use Rattle.interview_beat.proofs.advance.Statement.{statement}
 use Rattle.interview_beat.proofs.advance.Tie as tie

@@ -1,8 +1,8 @@
 -- The list, then the totals: what is counted is what the lists have.
 use mathlib.Core.Path.{ap, ◌∙◌}
 use Rattle.text.specs.Page.{page, text}
-use Rattle.text.specs.Page.Laws.{text-on}
-use Rattle.interview_beat.specs.Beat.Laws.{closing-is}
+use Rattle.text.proofs.Page.Laws.{text-on}
+use Rattle.interview_beat.proofs.Beat.Laws.{closing-is}
 use borrow.Author.Rules.{rules}
 use Rattle.interview_beat.proofs.finish.Statement.{statement}
 use Rattle.interview_beat.proofs.finish.Tie as tie

@@ -1,7 +1,7 @@
 -- The Q line is written; then the refusal, or the row, which the place that is left takes.
 use native.Mathlib.Omega.{arith}
 use lib.ListN.{length-set}
-use Rattle.interview_replies.specs.Holding.Laws.{no-full, no-free}
+use Rattle.interview_replies.proofs.Holding.Laws.{no-full, no-free}
 use borrow.Author.Rules.{rules}
 use Rattle.interview_no.proofs.say_no.Statement.{statement}
 use Rattle.interview_no.proofs.say_no.Tie as tie

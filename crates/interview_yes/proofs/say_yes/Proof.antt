@@ -1,7 +1,7 @@
 -- The Q line is written; then the refusal, or the question, which the place that is left takes.
 use native.Mathlib.Omega.{arith}
 use lib.ListN.{length-set}
-use Rattle.interview_replies.specs.Holding.Laws.{yes-full, yes-free}
+use Rattle.interview_replies.proofs.Holding.Laws.{yes-full, yes-free}
 use borrow.Author.Rules.{rules}
 use Rattle.interview_yes.proofs.say_yes.Statement.{statement}
 use Rattle.interview_yes.proofs.say_yes.Tie as tie

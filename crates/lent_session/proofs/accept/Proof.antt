@@ -1,7 +1,7 @@
 -- The record is read, the call by value is made, and the record is stored where it changed.
 use contract.Running.{tables_of}
 use Rattle.walks.specs.Instance.{id⊢, fact_mono, tables, triple_of, entered, cited}
-use Rattle.machine.specs.Calls.Laws.{chosen-made}
+use Rattle.machine.proofs.Calls.Laws.{chosen-made}
 use Rattle.session_yes.specs.contracts.accept as core
 use Rattle.session_yes.proofs.accept.Symbol as core-def
 use Rattle.session_yes.proofs.accept.Met as core-thm

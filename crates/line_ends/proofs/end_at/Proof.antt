@@ -7,7 +7,7 @@ use lib.ListN.{length, get_or, drop}
 use lib.Seq.{drop-cons}
 use borrow.Author.Rules.{rules}
 use Rattle.table_lines.specs.Lines.{returned, end_of, NoEnd}
-use Rattle.table_lines.specs.Lines.Laws.{end-feed, end-return, end_none}
+use Rattle.table_lines.proofs.Lines.Laws.{end-feed, end-return, end_none}
 use Rattle.line_ends.proofs.end_at.Statement.{statement}
 use Rattle.line_ends.proofs.end_at.Tie as tie
 
@@ -31,25 +31,24 @@ module _ (file : List ℕ) (i : ℕ) (h : i < length file) where
   other : NoEnd (get_or file i 0) → 0 ≡ end_of (drop i file)
   other n = sym (byte ∙ end_none (get_or file i 0) behind n)
 
-returns : tie.Need-returns
+returns : tie.Need-returns-in-10
 returns c =
-    let a = c.before.before.before.args in
-    feed a.file.now a.i (search rules) c.match.keys1
+    let a = c.args in
+    feed a.file.now a.i (search rules) c.in-10.is
 
-returns-2 : tie.Need-returns-2
+returns-2 : tie.Need-returns-in-13
 returns-2 c =
-    let k = c.before in
-    let a = k.before.before.before.args in
-    c.returned-at.ensures ∙ return a.file.now a.i (search rules) k.match.keys2
+    let a = c.args in
+    c.returned_at.ensures ∙ return a.file.now a.i (search rules) c.in-13.is
 
-returns-3 : tie.Need-returns-3
+returns-3 : tie.Need-returns-in_default
 returns-3 c =
-    let a = c.before.before.before.args in
-    let n = c.match.rest in
+    let a = c.args in
+    let n = c.in_default.in_default-own.rest in
     other a.file.now a.i (search rules) (n.0.1, n.1)
 
-pub end-at-spec : {M : Type 1} → statement M
-end-at-spec =
+pub end_at_spec : {M : Type 1} → statement M
+end_at_spec =
     tie.close
     (tie.spec
     (λ c. search rules)

@@ -5,18 +5,18 @@ use native.Mathlib.Omega.{arith}
 use borrow.Author.Rules.{rules}
 use lib.ListN.{drop, length-drop}
 use Rattle.table_lines.specs.declared.Line.{Line}
-use Rattle.table_lines.specs.Lines.Laws.{step-inside}
+use Rattle.table_lines.proofs.Lines.Laws.{step-inside}
 use Rattle.line_ends.proofs.next_at.Statement.{statement}
 use Rattle.line_ends.proofs.next_at.Tie as tie
 
-add-result : tie.Need-overflow-add-result
+add-result : tie.Need-overflow_add-result
 add-result c =
-    let a = c.before.before.before.args in
+    let a = c.args in
     let rest = drop a.at a.file.now in
-    omega (arith, ap (λ (l : Line). l.step) c.before.line_at.ensures, step-inside rest, length-drop a.at a.file.now)
+    omega (arith, ap (λ (l : Line). l.step) c.line_at-line.ensures, step-inside rest, length-drop a.at a.file.now)
 
 returns : tie.Need-returns
-returns c = ap (λ (l : Line). c.before.before.before.args.at + l.step) c.before.line_at.ensures
+returns c = ap (λ (l : Line). c.args.at + l.step) c.line_at-line.ensures
 
-pub next-at-spec : {M : Type 1} → statement M
-next-at-spec = tie.close (tie.spec (λ c κs. search rules) add-result returns)
+pub next_at_spec : {M : Type 1} → statement M
+next_at_spec = tie.close (tie.spec (λ c κs. search rules) add-result returns)

@@ -8,7 +8,7 @@ use lib.Dec.{eqb}
 use borrow.Author.Tests.{eq-eqb, ne_eqb}
 use borrow.Author.Rules.{rules}
 use Rattle.table_lines.specs.Lines.{feeds, returned}
-use Rattle.table_lines.specs.Lines.Laws.{returned-fed, returned-alone}
+use Rattle.table_lines.proofs.Lines.Laws.{returned-fed, returned-alone}
 use Rattle.line_ends.proofs.returned_at.Statement.{statement}
 use Rattle.line_ends.proofs.returned_at.Tie as tie
 
@@ -27,20 +27,24 @@ module _ (file : List ℕ) (next : ℕ) where
     alone : (get_or file next 0 ≡ 10 → ⊥) → 1 ≡ returned (drop next file)
     alone n = sym (returned-alone (drop next file) (byte ∙ ne_eqb _ 10 n))
 
-returns : tie.Need-returns
+returns : tie.Need-returns-then-next-file
 returns c =
-    let a = c.before.args in
-    last a.file.now a.next c.if1.true
+    let a = c.args in
+    last a.file.now a.next c.if-next-file.true
 
-returns-2 : tie.Need-returns-2
+returns-2 : tie.Need-returns-in-10
 returns-2 c =
-    let a = c.before.before.before.args in
-    fed a.file.now a.next (search rules) c.match.keys1
+    let a = c.args in
+    fed a.file.now a.next (search rules) c.in-10.is
 
-returns-3 : tie.Need-returns-3
+returns-3 : tie.Need-returns-in_default
 returns-3 c =
-    let a = c.before.before.before.args in
-    alone a.file.now a.next (search rules) c.match.rest.1
+    let a = c.args in
+    alone a.file.now a.next (search rules) c.in_default.in_default-own.rest.1
 
-pub returned-at-spec : {M : Type 1} → statement M
-returned-at-spec = tie.close (tie.spec returns (λ c. search rules) returns-2 returns-3)
+pub returned_at_spec : {M : Type 1} → statement M
+returned_at_spec = tie.close (tie.spec
+    returns
+    (λ c. search rules)
+    returns-2
+    returns-3)

@@ -6,36 +6,36 @@ use Rattle.line_faults.specs.Faults.{fault}
 use Rattle.line_faults.proofs.fault_of.Statement.{statement}
 use Rattle.line_faults.proofs.fault_of.Tie as tie
 
-returns : tie.Need-returns
+returns : tie.Need-returns-in-Letter
 unfolding fault
-returns c = rw c.before.before.enum_told.given.1 (c.refuse-unless.ensures ∙ ap (λ t. refuse_unless t 22) c.before.is-letter.ensures)
+returns c = rw c.in-Letter.is (c.refuse_unless.ensures ∙ ap (λ t. refuse_unless t 22) c.is_letter.ensures)
 
-returns-2 : tie.Need-returns-2
+returns-2 : tie.Need-returns-in-Title
 unfolding fault
-returns-2 c = rw c.before.enum-told2.given.1 c.refuse-unless2.ensures
+returns-2 c = rw c.in-Title.is c.refuse_unless-in-Title.ensures
 
-returns-3 : tie.Need-returns-3
+returns-3 : tie.Need-returns-in-Objects
 unfolding fault
-returns-3 c = rw c.before.enum-told3.given.1 c.count-fault.ensures
+returns-3 c = rw c.in-Objects.is c.count_fault.ensures
 
-returns-4 : tie.Need-returns-4
+returns-4 : tie.Need-returns-in-Attributes
 unfolding fault
-returns-4 c = rw c.before.enum-told4.given.1 c.count-fault2.ensures
+returns-4 c = rw c.in-Attributes.is c.count_fault-in-Attributes.ensures
 
-returns-5 : tie.Need-returns-5
+returns-5 : tie.Need-returns-in-Blank
 unfolding fault
-returns-5 c = rw c.before.enum-told5.given.1 c.refuse-unless3.ensures
+returns-5 c = rw c.in-Blank.is c.refuse_unless-in-Blank.ensures
 
-returns-6 : tie.Need-returns-6
+returns-6 : tie.Need-returns-in-Name
 unfolding fault
-returns-6 c = rw c.before.before.enum-told6.given.1 (c.refuse-unless4.ensures ∙ ap (λ t. refuse_unless t 26) c.before.is_name.ensures)
+returns-6 c = rw c.in-Name.is (c.refuse_unless-in-Name.ensures ∙ ap (λ t. refuse_unless t 26) c.is_name.ensures)
 
-returns-7 : tie.Need-returns-7
+returns-7 : tie.Need-returns-in-Marks
 unfolding fault
-returns-7 c = rw c.before.before.before.kind.given.1 (c.refuse-unless5.ensures ∙ ap (λ t. refuse_unless t 27) c.before.is-marks.ensures)
+returns-7 c = rw c.in-Marks.is (c.refuse_unless-in-Marks.ensures ∙ ap (λ t. refuse_unless t 27) c.is_marks.ensures)
 
-pub fault-of-spec : {M : Type 1} → statement M
-fault-of-spec =
+pub fault_of_spec : {M : Type 1} → statement M
+fault_of_spec =
     tie.close
     (tie.spec
     (λ c. search rules)

@@ -5,65 +5,70 @@ use Prim.Native.Nat.{ℕ, ◌+◌, ◌-◌, ◌≤◌, ◌<◌}
 use native.Mathlib.Omega.{arith}
 use borrow.Author.Rules.{rules}
 use lib.ListN.{length}
-use Rattle.table_lines.specs.Lines.Laws.{after-inside, after-moves}
+use Rattle.table_lines.proofs.Lines.Laws.{after-inside, after-moves}
 use Rattle.line_numbers.specs.Numbers.{ended_before, number_of_line}
-use Rattle.line_numbers.specs.Numbers.Laws.{ended-past, ended_here, ended-next}
+use Rattle.line_numbers.proofs.Numbers.Laws.{ended-past, ended_here, ended-next}
 use Rattle.line_numbers.proofs.line_number.Statement.{statement}
 use Rattle.line_numbers.proofs.line_number.Tie as tie
 
-abbrev invariant-loop : tie.invariant-loop
+abbrev invariant-loop : tie.invariant-loop-at
 invariant-loop file place number₀ at₀ number at =
     (at ≤ length file) × (number ≤ at + 1) × (number + ended_before (length file) file place at ≡ number_of_line file place)
 
-abbrev decreases-loop : tie.decreases-loop
+abbrev decreases-loop : tie.decreases-loop-at
 decreases-loop file place number₀ at₀ number at = length file - at
 
 -- the file, the place and where the line begins, in a turn of the loop
-abbrev file : tie.In-loop invariant-loop decreases-loop → List ℕ
-file t = t.before.before.before.args.file.now
+abbrev file : tie.In-loop-at invariant-loop decreases-loop → List ℕ
+file t = t.args.file.now
 
-abbrev place : tie.In-loop invariant-loop decreases-loop → ℕ
-place t = t.before.before.before.args.place
+abbrev place : tie.In-loop-at invariant-loop decreases-loop → ℕ
+place t = t.args.place
 
-abbrev at : tie.In-loop invariant-loop decreases-loop → ℕ
-at t = t.before.loop.at
+abbrev at : tie.In-loop-at invariant-loop decreases-loop → ℕ
+at t = t.loop-at.at
 
 -- the next line begins behind this one, inside the file
-next : (c : tie.After-next-at invariant-loop decreases-loop)
-    → let t = c.before in
-    (at t < c.next-at.result) × (c.next-at.result ≤ length (file t))
+next : (c : tie.After-next_at-next invariant-loop decreases-loop)
+    → (at c.before < c.next_at-next.result) × (c.next_at-next.result ≤ length (file c.before))
 next c =
-    let t = c.before in
-    let h : at t < length (file t) = omega arith in
-    (omega (arith, c.next-at.ensures, after-moves (file t) (at t) h), omega (arith, c.next-at.ensures, after-inside (file t) (at t) (omega arith)))
+    let h : at c.before < length (file c.before) = omega arith in
+    (omega (arith, c.next_at-next.ensures, after-moves (file c.before) (at c.before) h), omega (arith, c.next_at-next.ensures, after-inside (file c.before) (at c.before) (omega arith)))
 
-loop-holds : tie.Need-loop-init invariant-loop decreases-loop
+loop-holds : tie.Need-loop-at-init invariant-loop decreases-loop
 loop-holds c = (omega arith, omega arith, omega arith)
 
-returns : tie.Need-returns invariant-loop decreases-loop
+returns : tie.Need-returns-then-place-next invariant-loop decreases-loop
 returns c =
-    let t = c.before.before in
-    omega (arith, ended_here (file t) (place t) (length (file t)) (at t) (omega (arith, c.before.next-at.ensures)))
+    omega (arith, ended_here (file c.before.before) (place c.before.before) (length (file c.before.before)) (at c.before.before) (omega (arith, c.next_at-next.ensures)))
 
-add-number : tie.Need-overflow-add-number invariant-loop decreases-loop
+add-number : tie.Need-overflow_add-number invariant-loop decreases-loop
 add-number c = omega (arith, next c.before)
 
-loop-less : tie.Need-loop-smaller invariant-loop decreases-loop
+loop-less : tie.Need-loop-at-smaller invariant-loop decreases-loop
 loop-less c = omega (arith, next c.before)
 
-loop-again : tie.Need-loop-preserved invariant-loop decreases-loop
+loop-again : tie.Need-loop-at-preserved invariant-loop decreases-loop
 loop-again c =
-    let t = c.before.before in
-    let e = c.before.next-at.ensures in
-    let n = ended-next (file t) (place t) (at t) (omega arith) (omega (arith, e)) in
-    let m = ap (ended_before (length (file t)) (file t) (place t)) e in
+    let e = c.next_at-next.ensures in
+    let n = ended-next (file c.before.before) (place c.before.before) (at c.before.before) (omega arith) (omega (arith, e)) in
+    let m = ap (ended_before (length (file c.before.before)) (file c.before.before) (place c.before.before)) e in
     ((next c.before).1, omega (arith, next c.before), omega arith)
 
-returns-2 : tie.Need-returns-2 invariant-loop decreases-loop
+returns-2 : tie.Need-returns invariant-loop decreases-loop
 returns-2 c =
-    let a = c.before.before.before.args in
-    omega (arith, ended-past a.file.now a.place (length a.file.now) c.before.loop.at (omega arith))
+    let a = c.args in
+    omega (arith, ended-past a.file.now a.place (length a.file.now) c.loop-at.at (omega arith))
 
-pub line-number-spec : {M : Type 1} → statement M
-line-number-spec =
-    tie.close (tie.spec invariant-loop decreases-loop loop-holds (λ c κs. search rules) returns add-number loop-less loop-again returns-2)
+pub line_number_spec : {M : Type 1} → statement M
+line_number_spec =
+    tie.close (tie.spec
+    invariant-loop
+    decreases-loop
+    loop-holds
+    (λ c κs. search rules)
+    returns
+    add-number
+    loop-less
+    loop-again
+    returns-2)

@@ -9,19 +9,24 @@ use Rattle.line_tests.proofs.count_fault.Statement.{statement}
 use Rattle.line_tests.proofs.count_fault.Tie as tie
 
 -- it is a count
-count : (c : tie.Else1) → is_count c.before.before.before.args.line.now ≡ true
-count c = sym c.before.is-count.ensures ∙ not-false _ c.if1.false
+count : (c : tie.Else-not-is_count) → is_count c.args.line.now ≡ true
+count c = sym c.is_count.ensures ∙ c.if-not-is_count.false
 
-returns : tie.Need-returns
-returns c = rw (count_fault, sym c.before.is-count.ensures ∙ not-true _ c.if1.true)
+returns : tie.Need-returns-then-not-is_count
+returns c = rw (count_fault, sym c.is_count.ensures ∙ c.if-not-is_count.true)
 
-returns-2 : tie.Need-returns-2
-returns-2 c = rw (count_fault, count c.before.before, sym c.before.count_of.ensures, lt-leb _ _ c.if2.true)
+returns-2 : tie.Need-returns-then-count-least
+returns-2 c = rw (count_fault, count c.before.before, sym c.count_of-count.ensures, lt-leb _ _ c.if-count-least.true)
 
-returns-3 : tie.Need-returns-3
+returns-3 : tie.Need-returns
 returns-3 c =
-    let d = c.before.before in
-    rw (count_fault, count d.before, sym d.count_of.ensures, le-leb _ _ c.before.if2.false) c.refuse-unless.ensures
+    rw (count_fault, count c.before.before.before, sym c.count_of-count.ensures, le-leb _ _ c.if-count-least.false) c.refuse_unless.ensures
 
-pub count-fault-spec : {M : Type 1} → statement M
-count-fault-spec = tie.close (tie.spec (λ c κs. search rules) returns (λ c κs. search rules) returns-2 (λ c κs. search rules) returns-3)
+pub count_fault_spec : {M : Type 1} → statement M
+count_fault_spec = tie.close (tie.spec
+    (λ c κs. search rules)
+    returns
+    (λ c κs. search rules)
+    returns-2
+    (λ c κs. search rules)
+    returns-3)

@@ -7,17 +7,17 @@ use borrow.Author.Tests.{eq-eqb, ne_eqb}
 use Rattle.line_tests.proofs.is_letter.Statement.{statement}
 use Rattle.line_tests.proofs.is_letter.Tie as tie
 
-returns : tie.Need-returns
+returns : tie.Need-returns-then-line-ne1
 returns c =
-    let line = c.before.args.line.now in
+    let line = c.args.line.now in
     let h : length line ≡ 1 → ⊥ = λ e. omega arith in
     rw (ne_eqb _ _ h)
 
-returns-2 : tie.Need-returns-2
+returns-2 : tie.Need-returns
 returns-2 c =
-    let line = c.before.before.args.line.now in
+    let line = c.args.line.now in
     let h : length line ≡ 1 = omega arith in
     rw (eq-eqb _ _ h)
 
-pub is-letter-spec : {M : Type 1} → statement M
-is-letter-spec = tie.close (tie.spec returns (λ c. search rules) returns-2)
+pub is_letter_spec : {M : Type 1} → statement M
+is_letter_spec = tie.close (tie.spec returns (λ c. search rules) returns-2)

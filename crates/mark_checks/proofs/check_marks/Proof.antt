@@ -9,102 +9,85 @@ use borrow.Author.Rules.{rules}
 use Rattle.theory.specs.Implications.{Implication}
 use Rattle.implication.specs.Closure.{in_force}
 use Rattle.context.specs.Places.{lowest, anywhere}
-use Rattle.context.specs.Objects.{Object, object, objects_of, marked_twice, contradicts}
+use Rattle.context.specs.Objects.{Object, object, objects_of, marked_twice, contradicts, whole}
 use Rattle.machine.specs.Checks.{State, session_checks}
-use Rattle.machine.specs.Checks.Laws.{none-failing}
+use Rattle.machine.proofs.Checks.Laws.{none-failing}
 use Rattle.machine.specs.Calls.{state_of}
-use Rattle.context.specs.Places.Search.{anywhere-at, anywhere-none}
+use Rattle.context.proofs.Places.Search.{anywhere-at, anywhere-none}
 use Rattle.session.specs.declared.Refusal.{Refusal}
 use Rattle.session.specs.Refusals.{refusal}
-use Rattle.context.specs.Objects.Laws.{whole}
-use Rattle.mark_checks.specs.Marks.Laws.{lowest-idle, contradicting-whole, double-found, double-none, double-whole, none-double, five, six}
+use Rattle.mark_checks.proofs.Marks.Laws.{lowest-idle, contradicting-whole, double-found, double-none, double-whole, none-double, five, six}
 use Rattle.mark_checks.proofs.check_marks.Statement.{statement}
 use Rattle.mark_checks.proofs.check_marks.Tie as tie
 
 abbrev failed : ℕ → ℕ → Option Refusal
 failed number place = some (refusal number place)
 
-abbrev start : tie.After-first-contradiction → tie.Start
-start c = c.before.before.before.before
-
-abbrev state : tie.After-first-contradiction → State
-state c = let a = (start c).args in state_of a.session a.rows.now a.list.now a.background.now
+abbrev state : tie.After-first_contradiction-row → State
+state c = let a = c.args in state_of a.session a.rows.now a.list.now a.background.now
 
 -- the rules in force
-abbrev in_use : tie.After-first-contradiction → List (Implication ℕ)
-in_use c = let a = (start c).args in in_force a.background.now a.list.now a.session.rules
+abbrev in_use : tie.After-first_contradiction-row → List (Implication ℕ)
+in_use c = let a = c.args in in_force a.background.now a.list.now a.session.rules
 
 -- the rows in use
-abbrev used : tie.After-first-contradiction → List Object
-used c = let a = (start c).args in objects_of a.session.rows a.rows.now
+abbrev used : tie.After-first_contradiction-row → List Object
+used c = let a = c.args in objects_of a.session.rows a.rows.now
 
 -- what the first search gives: the empty implication changes nothing
-row-lowest : (c : tie.After-first-contradiction) → c.first-contradiction.result ≡ lowest (contradicts (in_use c)) (used c)
-row-lowest c = c.first-contradiction.ensures ∙ lowest-idle (in_use c) (used c)
+row-lowest : (c : tie.After-first_contradiction-row) → c.first_contradiction-row.result ≡ lowest (contradicts (in_use c)) (used c)
+row-lowest c = c.first_contradiction-row.ensures ∙ lowest-idle (in_use c) (used c)
 
 -- where no place is the lowest, no row marks an attribute both ways
-no-double : (c : tie.After-first-contradiction) → (start c).args.session.rows ≤ lowest marked_twice (used c) → anywhere marked_twice (used c) ≡ false
-no-double c = let a = (start c).args in anywhere-none marked_twice object a.rows.now a.session.rows
+no-double : (c : tie.After-first_contradiction-row) → c.args.session.rows ≤ lowest marked_twice (used c) → anywhere marked_twice (used c) ≡ false
+no-double c = let a = c.args in anywhere-none marked_twice object a.rows.now a.session.rows
 
--- what the second gives, among the rows that the slice has whole
-abbrev first : tie.After-smaller → tie.After-first-contradiction
-first c = c.before.before
+abbrev had : tie.After-smaller-whole → ℕ
+had c = let a = c.args in whole a.session.rows a.rows.now
 
-abbrev had : tie.After-smaller → ℕ
-had c = let a = (start (first c)).args in whole a.session.rows a.rows.now
-
-within : (c : tie.After-smaller) → (first c).first-contradiction.result ≤ c.smaller.result
+within : (c : tie.After-smaller-whole) → c.first_contradiction-row.result ≤ c.smaller-whole.result
 within c =
-    let d = first c in
-    let a = (start d).args in
-    let h = contradicting-whole (in_use d) a.session.rows a.rows.now (omega (arith, row-lowest d)) in
-    omega (arith, row-lowest d, c.smaller.ensures)
+    let a = c.args in
+    let h = contradicting-whole (in_use c.before.before) a.session.rows a.rows.now (omega (arith, row-lowest c.before.before)) in
+    omega (arith, row-lowest c.before.before, c.smaller-whole.ensures)
 
-abbrev sized : tie.After-first-double → tie.After-first-contradiction
-sized c = first c.before
-
-double-lowest : (c : tie.After-first-double)
-    → c.first-double.result ≡ lowest marked_twice (objects_of (had c.before) (start (sized c)).args.rows.now)
+double-lowest : (c : tie.After-first_double-double)
+    → c.first_double-double.result ≡ lowest marked_twice (objects_of (had c.before) c.args.rows.now)
 double-lowest c =
-    let d = sized c in
-    let a = (start d).args in
-    double-found (in_use d) a.session.rows a.rows.now (row-lowest d) (omega arith) c.before.smaller.ensures c.first-double.ensures
+    let a = c.args in
+    double-found (in_use c.before.before.before) a.session.rows a.rows.now (row-lowest c.before.before.before) (omega arith) c.smaller-whole.ensures c.first_double-double.ensures
 
-returns : tie.Need-returns
+returns : tie.Need-returns-then-used-row
 unfolding session_checks
 returns c asked =
-    let d = c.before in
-    let a = (start d).args in
-    let none = none-double (in_use d) a.session.rows a.rows.now (omega (arith, row-lowest d)) in
+    let a = c.args in
+    let none = none-double (in_use c.before) a.session.rows a.rows.now (omega (arith, row-lowest c.before)) in
     sym (none-failing _ (
-      no-double d none,
-      (anywhere-none (contradicts (in_use d)) object a.rows.now a.session.rows (omega (arith, row-lowest d)), tt),
+      no-double c.before none,
+      (anywhere-none (contradicts (in_use c.before)) object a.rows.now a.session.rows (omega (arith, row-lowest c.before)), tt),
     ))
 
-first-double-requires : tie.Need-first-double-requires
-first-double-requires c κs = (omega (arith, c.smaller.ensures), within c)
+first-double-requires : tie.Need-first_double-double-requires
+first-double-requires c κs = (omega (arith, c.smaller-whole.ensures), within c)
 
-returns-2 : tie.Need-returns-2
+returns-2 : tie.Need-returns-then-double-whole
 returns-2 c asked =
-    let d = c.before.before in
-    let a = (start (sized d)).args in
-    let is = double-whole (in_use (sized d)) a.session.rows a.rows.now (omega (arith, double-lowest d, d.before.smaller.ensures)) in
-    c.refused.ensures ∙ ap (failed 5) (double-lowest d ∙ sym is)
-    ∙ sym (five (state (sized d)) asked
-    (anywhere-at marked_twice object a.rows.now a.session.rows (omega (arith, is, double-lowest d, d.before.smaller.ensures))))
+    let a = c.args in
+    let is = double-whole (in_use c.before.before.before.before.before) a.session.rows a.rows.now (omega (arith, double-lowest c.before.before, c.smaller-whole.ensures)) in
+    c.refused.ensures ∙ ap (failed 5) (double-lowest c.before.before ∙ sym is)
+    ∙ sym (five (state c.before.before.before.before.before) asked
+    (anywhere-at marked_twice object a.rows.now a.session.rows (omega (arith, is, double-lowest c.before.before, c.smaller-whole.ensures))))
 
-returns-3 : tie.Need-returns-3
+returns-3 : tie.Need-returns
 returns-3 c asked =
-    let e = c.before.before in
-    let d = sized e in
-    let a = (start d).args in
-    let none = double-none (in_use d) a.session.rows a.rows.now (omega (arith, double-lowest e, e.before.smaller.ensures)) in
-    c.refused2.ensures ∙ ap (failed 6) (row-lowest d)
-    ∙ sym (six (state d) asked (no-double d none)
-    (anywhere-at (contradicts (in_use d)) object a.rows.now a.session.rows (omega (arith, row-lowest d))))
+    let a = c.args in
+    let none = double-none (in_use c.before.before.before.before.before) a.session.rows a.rows.now (omega (arith, double-lowest c.before.before, c.smaller-whole.ensures)) in
+    c.refused-2.ensures ∙ ap (failed 6) (row-lowest c.before.before.before.before.before)
+    ∙ sym (six (state c.before.before.before.before.before) asked (no-double c.before.before.before.before.before none)
+    (anywhere-at (contradicts (in_use c.before.before.before.before.before)) object a.rows.now a.session.rows (omega (arith, row-lowest c.before.before.before.before.before))))
 
-pub check-marks-spec : {M : Type 1} → statement M
-check-marks-spec =
+pub check_marks_spec : {M : Type 1} → statement M
+check_marks_spec =
     tie.close
     (tie.spec
     (λ c κs. search rules)

@@ -9,47 +9,45 @@ use borrow.Author.Tests.{eq-eqb, ne_eqb}
 use Rattle.attribute_set.specs.Sets.{meets}
 use Rattle.context.specs.Places.{lowest}
 use Rattle.context.specs.Objects.{object, objects_of, marked_twice}
-use Rattle.context.specs.Places.Search.{pair_found, pair-passed, pair-none}
+use Rattle.context.proofs.Places.Search.{pair_found, pair-passed, pair-none}
 use Rattle.mark_checks.proofs.first_double.Statement.{statement}
 use Rattle.mark_checks.proofs.first_double.Tie as tie
 
-abbrev invariant-loop : tie.invariant-loop
+abbrev invariant-loop : tie.invariant-loop-i
 invariant-loop rows count from i₀ i =
     (i ≤ count)
     × (i + lowest marked_twice (objects_of (count - i) (drop (i * 2) rows)) ≡ from + lowest marked_twice (objects_of (count - from) (drop (from * 2) rows)))
 
-abbrev decreases-loop : tie.decreases-loop
+abbrev decreases-loop : tie.decreases-loop-i
 decreases-loop rows count from i₀ i = count - i
 
-loop-holds : tie.Need-loop-init invariant-loop decreases-loop
+loop-holds : tie.Need-loop-i-init invariant-loop decreases-loop
 loop-holds c = (omega arith, refl)
 
-returns : tie.Need-returns invariant-loop decreases-loop
+returns : tie.Need-returns-then-rows-i-ne0 invariant-loop decreases-loop
 unfolding marked_twice meets
 returns c =
-    let t = c.before.before.before in
-    let l = t.before.loop in
-    let a = t.before.before.args in
+    let l = c.loop-i in
+    let a = c.args in
     let h : l.i < a.count = omega arith in
-    omega (arith, l.invariant.1, pair_found marked_twice object a.rows.now a.count l.i h (ap not (ne_eqb _ _ c.if1.true)))
+    omega (arith, l.invariant.1, pair_found marked_twice object a.rows.now a.count l.i h (ap not (ne_eqb _ _ c.if-rows-i-ne0.true)))
 
-loop-again : tie.Need-loop-preserved invariant-loop decreases-loop
+loop-again : tie.Need-loop-i-preserved invariant-loop decreases-loop
 unfolding marked_twice meets
 loop-again c =
-    let t = c.before.before.before in
-    let l = t.before.loop in
-    let a = t.before.before.args in
+    let l = c.loop-i in
+    let a = c.args in
     let h : l.i < a.count = omega arith in
-    (omega arith, omega (arith, l.invariant.1, pair-passed marked_twice object a.rows.now a.count l.i h (ap not (eq-eqb _ _ c.if1.false))))
+    (omega arith, omega (arith, l.invariant.1, pair-passed marked_twice object a.rows.now a.count l.i h (ap not (eq-eqb _ _ c.if-rows-i-ne0.false))))
 
-returns-2 : tie.Need-returns-2 invariant-loop decreases-loop
+returns-2 : tie.Need-returns invariant-loop decreases-loop
 returns-2 c =
-    let l = c.before.loop in
-    let a = c.before.before.args in
+    let l = c.loop-i in
+    let a = c.args in
     omega (arith, l.invariant.1, pair-none marked_twice object a.rows.now a.count l.i (omega arith))
 
-pub first-double-spec : {M : Type 1} → statement M
-first-double-spec =
+pub first_double_spec : {M : Type 1} → statement M
+first_double_spec =
     tie.close
     (tie.spec
     invariant-loop

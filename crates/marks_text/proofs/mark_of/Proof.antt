@@ -17,14 +17,14 @@ marked-no y (suc m) e h = rw e
 unmarked : (y m : ℕ) → y ≡ 0 → m ≡ 0 → 63 ≡ mark_of y m
 unmarked y m e f = rw (e, f)
 
-returns : tie.Need-returns
-returns c = let a = c.before.args in marked-yes a.yes a.no (search rules)
+returns : tie.Need-returns-then-yes-ne0
+returns c = let a = c.args in marked-yes a.yes a.no (search rules)
 
-returns-2 : tie.Need-returns-2
-returns-2 c = let a = c.before.before.args in marked-no a.yes a.no (search rules) (search rules)
+returns-2 : tie.Need-returns-then-no-ne0
+returns-2 c = let a = c.args in marked-no a.yes a.no (search rules) (search rules)
 
-returns-3 : tie.Need-returns-3
-returns-3 c = let a = c.before.before.args in unmarked a.yes a.no (search rules) (search rules)
+returns-3 : tie.Need-returns
+returns-3 c = let a = c.args in unmarked a.yes a.no (search rules) (search rules)
 
-pub mark-of-spec : {M : Type 1} → statement M
-mark-of-spec = tie.close (tie.spec returns returns-2 returns-3)
+pub mark_of_spec : {M : Type 1} → statement M
+mark_of_spec = tie.close (tie.spec returns returns-2 returns-3)

@@ -9,7 +9,7 @@ use Rattle.table_lines.specs.declared.Line.{Line}
 use Rattle.table_lines.specs.Lines.{line_of}
 use Rattle.found_layout.specs.Found.{finds}
 use Rattle.name_spans.specs.Spans.{span}
-use Rattle.name_spans.specs.Spans.Laws.{span-unfound, span-past, span-there}
+use Rattle.name_spans.proofs.Spans.Laws.{span-unfound, span-past, span-there}
 use Rattle.name_spans.proofs.span_of.Statement.{statement}
 use Rattle.name_spans.proofs.span_of.Tie as tie
 

@@ -4,8 +4,8 @@ use borrow.Author.Rules.{rules}
 use Rattle.named_files.proofs.read_path.Statement.{statement}
 use Rattle.named_files.proofs.read_path.Tie as tie
 
-pub read-path-spec : {M : Type 1} → statement M
-read-path-spec =
+pub read_path_spec : {M : Type 1} → statement M
+read_path_spec =
     tie.close
     (tie.spec
     (λ c κs. search rules)

@@ -6,7 +6,6 @@ use Rattle.session.specs.Limits.{most_objects}
 use Rattle.attribute_set.specs.Sets.{digit}
 use Rattle.context.specs.Objects.{Object, object}
 use Rattle.nearly_always.specs.Nearly.{support}
-pub mod Laws
 
 -- of n attributes: nothing is counted yet; no count is above the rows of a table
 pub record Zero (n : ℕ) (counts : List ℕ) : Type 0 where

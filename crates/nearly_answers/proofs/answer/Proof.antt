@@ -5,10 +5,10 @@ use lib.ListN.{length}
 use lib.Seq.{length-take-le}
 use Rattle.table_layout.specs.Layout.{input_most}
 use Rattle.handed_output.specs.Handing.{WritesIn}
-use Rattle.standard_streams.specs.Answers.Laws.{input-answered}
-use Rattle.standard_streams.specs.First.{first-bytes}
+use Rattle.standard_streams.proofs.Answers.Laws.{input-answered}
+use Rattle.standard_streams.proofs.First.{first-bytes}
 use Rattle.nearly_output.specs.Output.{nearly_output}
-use Rattle.nearly_output.specs.Output.Laws.{nearly-first}
+use Rattle.nearly_output.proofs.Output.Laws.{nearly-first}
 use borrow.Author.Rules.{rules}
 use Rattle.nearly_answers.proofs.answer.Statement.{statement}
 use Rattle.nearly_answers.proofs.answer.Tie as tie

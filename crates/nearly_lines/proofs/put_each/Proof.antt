@@ -6,41 +6,30 @@ use native.Mathlib.Omega.{arith}
 use borrow.Author.Rules.{rules}
 use Rattle.context.specs.Objects.{objects_of}
 use Rattle.short_premises.specs.Premises.{pairs_with, premises_below, premises}
-use Rattle.short_premises.specs.Premises.Laws.{premises-step, premises-end}
+use Rattle.short_premises.proofs.Premises.Laws.{premises-step, premises-end}
 use Rattle.text.specs.Page.{page, text}
-use Rattle.text.specs.Page.Laws.{text-on, text-end, same_size}
+use Rattle.text.proofs.Page.Laws.{text-on, text-end, same_size}
 use Rattle.nearly_lines.specs.Lines.{nearly_lines}
-use Rattle.nearly_lines.specs.Lines.Laws.{lines-append, lines_none}
+use Rattle.nearly_lines.proofs.Lines.Laws.{lines-append, lines_none}
 use Rattle.nearly_lines.proofs.put_each.Statement.{statement}
 use Rattle.nearly_lines.proofs.put_each.Tie as tie
 
-abbrev invariant-loop : tie.invariant-loop
+abbrev invariant-loop : tie.invariant-loop-i
 invariant-loop out₀ at n used rows percent to₀ i₀ out to i =
     (i ≤ n)
     × (text (page out to) (nearly_lines n percent (objects_of used rows) (premises_below n i))
     ≡ text (page out₀ at) (nearly_lines n percent (objects_of used rows) (premises n)))
 
-abbrev decreases-loop : tie.decreases-loop
+abbrev decreases-loop : tie.decreases-loop-i
 decreases-loop out₀ at n used rows percent to₀ i₀ out to i = i
 
--- the places: the start, before the loop; a turn of it; the lines that the turn writes
-abbrev start : tie.At-loop invariant-loop decreases-loop → tie.Start invariant-loop decreases-loop
-start c = c.before.before.before
-
-abbrev turn : tie.After-put-with invariant-loop decreases-loop → tie.At-loop invariant-loop decreases-loop
-turn c = c.before.before.before
-
-abbrev put : tie.After-slice-known2 invariant-loop decreases-loop → tie.After-put-with invariant-loop decreases-loop
-put c = c.before.before
-
-loop-holds : tie.Need-loop-init invariant-loop decreases-loop
+loop-holds : tie.Need-loop-i-init invariant-loop decreases-loop
 loop-holds c = (omega arith, refl)
 
-loop-again : tie.Need-loop-preserved invariant-loop decreases-loop
+loop-again : tie.Need-loop-i-preserved invariant-loop decreases-loop
 loop-again c =
-    let t = turn (put c) in
-    let l = t.loop in
-    let a = (start t).args in
+    let l = c.loop-i in
+    let a = c.args in
     let os = objects_of a.used a.rows.now in
     let lines = nearly_lines a.n a.percent os in
     let k = l.i - 1 in
@@ -49,25 +38,25 @@ loop-again c =
     let rest = premises_below a.n k in
     let p = page l.out l.to in (
       omega arith,
-      text-on p (lines here) (lines rest) (put c).put-with.ensures refl
+      text-on p (lines here) (lines rest) c.put_with-to.ensures refl
           ∙ ap (text p) (lines-append a.n a.percent os here rest
           ∙ ap lines (sym (ap (premises_below a.n) last ∙ premises-step a.n k)))
-          ∙ l.inv.1,
+          ∙ l.invariant.1,
     )
 
-same_length : tie.Need-same-length invariant-loop decreases-loop
-same_length c = same_size _ _ _ _ c.before.loop.invariant.1
+same_length : tie.Need-shape_of-out invariant-loop decreases-loop
+same_length c = same_size _ _ _ _ c.loop-i.invariant.1
 
 returns : tie.Need-returns invariant-loop decreases-loop
 returns c =
-    let l = c.before.loop in
-    let a = (start c.before).args in
+    let l = c.loop-i in
+    let a = c.args in
     let zero : l.i ≡ 0 = omega arith in
     let none = ap (premises_below a.n) zero ∙ premises-end a.n in
     text-end (page l.out l.to) _ (lines_none a.n a.percent (objects_of a.used a.rows.now) _ none) ∙ l.invariant.1
 
-pub put-each-spec : {M : Type 1} → statement M
-put-each-spec =
+pub put_each_spec : {M : Type 1} → statement M
+put_each_spec =
     tie.close
     (tie.spec
     invariant-loop

@@ -7,36 +7,26 @@ use borrow.Author.Rules.{rules}
 use Rattle.context.specs.Objects.{objects_of}
 use Rattle.short_premises.specs.Premises.{pairs_with}
 use Rattle.text.specs.Page.{page, text}
-use Rattle.text.specs.Page.Laws.{text-on}
+use Rattle.text.proofs.Page.Laws.{text-on}
 use Rattle.nearly_lines.specs.Lines.{nearly_lines}
-use Rattle.nearly_lines.specs.Lines.Laws.{lines-first, one-raised}
+use Rattle.nearly_lines.proofs.Lines.Laws.{lines-first, one-raised}
 use Rattle.nearly_lines.proofs.put_with.Statement.{statement}
 use Rattle.nearly_lines.proofs.put_with.Tie as tie
 
--- the places: behind the line of the attribute alone, and the start
-abbrev alone : tie.After-put-pairs → tie.After-put-line
-alone c = c.before.before.before.before
-
-abbrev start : tie.After-raised → tie.Start
-start c = c.before.before.before.before
-
 returns : tie.Need-returns
 returns c =
-    let second = c.before.before in
-    let first = alone second in
-    let made = first.before in
-    let a = (start made).args in
+    let a = c.args in
     let os = objects_of a.used a.rows.now in
     let lines = nearly_lines a.n a.percent os in
-    let set = made.raised.result in
+    let set = c.raised.result in
     let pairs = pairs_with a.i a.n in
     let p = page a.out.now a.at in
-    text-on p (lines (set ∷ [])) (lines pairs) first.put-line.ensures second.put-pairs.ensures
+    text-on p (lines (set ∷ [])) (lines pairs) c.put_line-alone.ensures c.put_pairs.ensures
     ∙ ap (text p) (lines-first a.n a.percent os set pairs)
-    ∙ ap (λ (s : ℕ). text p (lines (s ∷ pairs))) (made.raised.ensures ∙ one-raised a.i (omega arith))
+    ∙ ap (λ (s : ℕ). text p (lines (s ∷ pairs))) (c.raised.ensures ∙ one-raised a.i (omega arith))
 
-pub put-with-spec : {M : Type 1} → statement M
-put-with-spec =
+pub put_with_spec : {M : Type 1} → statement M
+put_with_spec =
     tie.close
     (tie.spec
     (λ c κs. search rules)

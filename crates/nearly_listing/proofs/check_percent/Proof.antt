@@ -3,7 +3,7 @@ use mathlib.Core.Path.{◌∙◌, sym}
 use mathlib.Core.List.{[]}
 use borrow.Author.Rules.{rules}
 use borrow.Author.Tests.{lt-ltb, le-ltb}
-use Rattle.machine.specs.Checks.Laws.{failing-nothing, failing-here, failing-later}
+use Rattle.machine.proofs.Checks.Laws.{failing-nothing, failing-here, failing-later}
 use Rattle.nearly_always.specs.Nearly.{most_percent}
 use Rattle.nearly_listing.specs.Listing.{percent_check}
 use Rattle.nearly_listing.proofs.check_percent.Statement.{statement}

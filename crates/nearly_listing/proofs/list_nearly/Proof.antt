@@ -12,7 +12,7 @@ use Rattle.session_checks.specs.Checked.{first_of}
 use Rattle.nearly_always.specs.Nearly.{nearly_always, InRange}
 use Rattle.nearly_listing.specs.declared.Nearly.TheVariants.{Listed}
 use Rattle.nearly_listing.specs.Listing.{list_checks, listed_by, listing}
-use Rattle.nearly_listing.specs.Listing.Laws.{list-checked, in_range}
+use Rattle.nearly_listing.proofs.Listing.Laws.{list-checked, in_range}
 use Rattle.nearly_listing.proofs.list_nearly.Statement.{statement}
 use Rattle.nearly_listing.proofs.list_nearly.Tie as tie
 

@@ -7,7 +7,7 @@ use Rattle.session.specs.Limits.{most_objects}
 use Rattle.short_premises.specs.Premises.{premises}
 use Rattle.nearly_lines.specs.Lines.{nearly_lines}
 use Rattle.nearly_output.specs.Output.{percentage}
-use Rattle.nearly_output.specs.Output.Laws.{Read, table-read, read-range, output-written}
+use Rattle.nearly_output.proofs.Output.Laws.{Read, table-read, read-range, output-written}
 use borrow.Author.Rules.{rules}
 use Rattle.nearly_output.proofs.list_file.Statement.{statement}
 use Rattle.nearly_output.proofs.list_file.Tie as tie

@@ -1,6 +1,6 @@
 -- What the lines' call wrote lies in the buffer, and is handed over whole.
 use Rattle.context.specs.Objects.{objects_of}
-use Rattle.handed_output.specs.Handing.Laws.{hands-text}
+use Rattle.handed_output.proofs.Handing.Laws.{hands-text}
 use Rattle.short_premises.specs.Premises.{premises}
 use Rattle.nearly_lines.specs.Lines.{nearly_lines}
 use Rattle.nearly_output.specs.Output.{percentage}

@@ -6,7 +6,7 @@ use Rattle.implication.specs.Closure.{in_force}
 use Rattle.context.specs.Objects.{Object, object, contradicts}
 use Rattle.context.specs.Filling.{joined, reverses}
 use Rattle.machine.specs.Checks.{Check, check, bad_row, first_failing}
-use Rattle.machine.specs.Checks.Laws.{failing-nothing, failing-here, failing-later}
+use Rattle.machine.proofs.Checks.Laws.{failing-nothing, failing-here, failing-later}
 use Rattle.offered_rows.proofs.check_added_marks.Statement.{statement}
 use Rattle.offered_rows.proofs.check_added_marks.Tie as tie
 

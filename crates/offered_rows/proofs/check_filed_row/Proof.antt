@@ -5,7 +5,7 @@ use borrow.Author.Rules.{rules}
 use Rattle.implication.specs.Closure.{in_force}
 use Rattle.context.specs.Objects.{Object, object, contradicts}
 use Rattle.machine.specs.Checks.{Check, check, bad_row, first_failing}
-use Rattle.machine.specs.Checks.Laws.{failing-nothing, failing-here, failing-later}
+use Rattle.machine.proofs.Checks.Laws.{failing-nothing, failing-here, failing-later}
 use Rattle.offered_rows.proofs.check_filed_row.Statement.{statement}
 use Rattle.offered_rows.proofs.check_filed_row.Tie as tie
 

@@ -6,7 +6,7 @@ use borrow.Author.Rules.{rules}
 use Rattle.implication.specs.Closure.{implication, in_force}
 use Rattle.context.specs.Objects.{Object, object, refutes}
 use Rattle.machine.specs.Checks.{Check, check, bad_row, first_failing}
-use Rattle.machine.specs.Checks.Laws.{failing-nothing, failing-here, failing-later}
+use Rattle.machine.proofs.Checks.Laws.{failing-nothing, failing-here, failing-later}
 use Rattle.offered_rows.proofs.check_tested_row.Statement.{statement}
 use Rattle.offered_rows.proofs.check_tested_row.Tie as tie
 

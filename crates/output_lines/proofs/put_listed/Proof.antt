@@ -6,14 +6,9 @@ use Rattle.output_lines.proofs.put_listed.Tie as tie
 
 returns : tie.Need-returns
 unfolding list_lines
-returns c = c.before.before.put-rule.ensures
+returns c = c.put_rule.ensures
 
-pub put-listed-spec : {M : Type 1} → statement M
-put-listed-spec =
+pub put_listed_spec : {M : Type 1} → statement M
+put_listed_spec =
     tie.close
-    (tie.spec
-    (λ c. search rules)
-    (λ c. search rules)
-    (λ c κs. search rules)
-    (λ c. search rules)
-    returns)
+    (tie.spec (λ c κs. search rules) (λ c. search rules) returns)

@@ -1,22 +1,17 @@
 -- The words in front, the premise, a space, the conclusion, the words behind.
-use Rattle.text.specs.Page.Laws.{text-on}
+use Rattle.text.proofs.Page.Laws.{text-on}
 use borrow.Author.Rules.{rules}
 use Rattle.output_lines.proofs.put_rule.Statement.{statement}
 use Rattle.output_lines.proofs.put_rule.Tie as tie
 
 returns : tie.Need-returns
 returns c =
-    let fifth = c.before.before in
-    let fourth = fifth.before.before.before.before in
-    let third = fourth.before.before.before.before in
-    let second = third.before.before.before.before in
-    let first = second.before.before.before.before in
-    text-on _ _ _ first.put-bytes.ensures (
-    text-on _ _ _ (text-on _ _ _ second.put-set.ensures (text-on _ _ _ third.put_byte.ensures fourth.put-set2.ensures))
-    fifth.put-bytes2.ensures)
+    text-on _ _ _ c.put_bytes-fronted.ensures (
+    text-on _ _ _ (text-on _ _ _ c.put_set-premised.ensures (text-on _ _ _ c.put_byte-spaced.ensures c.put_set-concluded.ensures))
+    c.put_bytes.ensures)
 
-pub put-rule-spec : {M : Type 1} → statement M
-put-rule-spec =
+pub put_rule_spec : {M : Type 1} → statement M
+put_rule_spec =
     tie.close
     (tie.spec
     (λ c κs. search rules)

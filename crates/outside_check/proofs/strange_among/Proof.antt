@@ -8,55 +8,46 @@ use borrow.Author.Rules.{rules}
 use Rattle.implication.specs.Pairs.{pairs}
 use Rattle.context.specs.Places.{lowest}
 use Rattle.machine.specs.Checks.{strange}
-use Rattle.context.specs.Places.Search.{pair_found, pair-passed, pair-none, anywhere-at, anywhere-none}
+use Rattle.context.proofs.Places.Search.{pair_found, pair-passed, pair-none, anywhere-at, anywhere-none}
 use Rattle.outside_check.proofs.strange_among.Statement.{statement}
 use Rattle.outside_check.proofs.strange_among.Tie as tie
 
-abbrev invariant-loop : tie.invariant-loop
+abbrev invariant-loop : tie.invariant-loop-i
 invariant-loop words count m i₀ i =
     (i ≤ count)
     × (i + lowest (λ b. b) (pairs (strange m) (count - i) (drop (i * 2) words)) ≡ lowest (λ b. b) (pairs (strange m) count words))
 
-abbrev decreases-loop : tie.decreases-loop
+abbrev decreases-loop : tie.decreases-loop-i
 decreases-loop words count m i₀ i = count - i
 
--- the turn of the loop in which a pair is tested, and the start
-abbrev turn : tie.After-strange-pair invariant-loop decreases-loop → tie.In-loop invariant-loop decreases-loop
-turn c = c.before.before.before
-
-abbrev start : tie.In-loop invariant-loop decreases-loop → tie.Start invariant-loop decreases-loop
-start c = c.before.before.before
-
-loop-holds : tie.Need-loop-init invariant-loop decreases-loop
+loop-holds : tie.Need-loop-i-init invariant-loop decreases-loop
 loop-holds c = (omega arith, rw sub-zero (omega arith))
 
-returns : tie.Need-returns invariant-loop decreases-loop
+returns : tie.Need-returns-then-strange_pair invariant-loop decreases-loop
 returns c =
-    let t = turn c.before in
-    let l = t.before.loop in
-    let a = (start t).args in
+    let l = c.loop-i in
+    let a = c.args in
     let h : l.i < a.count = omega arith in
-    let e = pair_found (λ b. b) (strange a.m) a.words.now a.count l.i h (sym c.before.strange-pair.ensures ∙ c.if1.true) in
-    sym (anywhere-at (λ b. b) (strange a.m) a.words.now a.count (omega (arith, l.inv.1)))
+    let e = pair_found (λ b. b) (strange a.m) a.words.now a.count l.i h (sym c.strange_pair.ensures ∙ c.if-strange_pair.true) in
+    sym (anywhere-at (λ b. b) (strange a.m) a.words.now a.count (omega (arith, l.invariant.1)))
 
-loop-again : tie.Need-loop-preserved invariant-loop decreases-loop
+loop-again : tie.Need-loop-i-preserved invariant-loop decreases-loop
 loop-again c =
-    let t = turn c.before in
-    let l = t.before.loop in
-    let a = (start t).args in
+    let l = c.loop-i in
+    let a = c.args in
     let h : l.i < a.count = omega arith in
-    let e = pair-passed (λ b. b) (strange a.m) a.words.now a.count l.i h (sym c.before.strange-pair.ensures ∙ c.if1.false) in
-    (omega arith, omega (arith, l.inv.1))
+    let e = pair-passed (λ b. b) (strange a.m) a.words.now a.count l.i h (sym c.strange_pair.ensures ∙ c.if-strange_pair.false) in
+    (omega arith, omega (arith, l.invariant.1))
 
-returns-2 : tie.Need-returns-2 invariant-loop decreases-loop
+returns-2 : tie.Need-returns invariant-loop decreases-loop
 returns-2 c =
-    let l = c.before.loop in
-    let a = c.before.before.before.args in
+    let l = c.loop-i in
+    let a = c.args in
     let e = pair-none (λ b. b) (strange a.m) a.words.now a.count l.i (omega arith) in
     sym (anywhere-none (λ b. b) (strange a.m) a.words.now a.count (omega (arith, l.invariant.1)))
 
-pub strange-among-spec : {M : Type 1} → statement M
-strange-among-spec =
+pub strange_among_spec : {M : Type 1} → statement M
+strange_among_spec =
     tie.close
     (tie.spec
     invariant-loop

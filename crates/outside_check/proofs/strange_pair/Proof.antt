@@ -5,13 +5,13 @@ use Rattle.machine.specs.Checks.{strange}
 use Rattle.outside_check.proofs.strange_pair.Statement.{statement}
 use Rattle.outside_check.proofs.strange_pair.Tie as tie
 
-returns : tie.Need-returns
+returns : tie.Need-returns-then-a-m
 unfolding strange inside
-returns c = rw (ne_eqb _ _ c.if1.true)
+returns c = rw (ne_eqb _ _ c.if-a-m.true)
 
-returns-2 : tie.Need-returns-2
+returns-2 : tie.Need-returns
 unfolding strange inside
-returns-2 c = rw (eq-eqb _ _ c.if1.false)
+returns-2 c = rw (eq-eqb _ _ c.if-a-m.false)
 
-pub strange-pair-spec : {M : Type 1} → statement M
-strange-pair-spec = tie.close (tie.spec returns returns-2)
+pub strange_pair_spec : {M : Type 1} → statement M
+strange_pair_spec = tie.close (tie.spec returns returns-2)

@@ -1,6 +1,6 @@
 -- `line `, the number, `: `.
 use borrow.Author.Rules.{rules}
-use Rattle.text.specs.Page.Laws.{text-on}
+use Rattle.text.proofs.Page.Laws.{text-on}
 use Rattle.refusal_words.specs.Words.{bytes}
 use Rattle.refusal_reports.proofs.put_line_number.Statement.{statement}
 use Rattle.refusal_reports.proofs.put_line_number.Tie as tie

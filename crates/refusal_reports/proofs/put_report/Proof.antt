@@ -2,7 +2,7 @@
 use mathlib.Core.Path.{ap, ◌∙◌}
 use borrow.Author.Rules.{rules}
 use Rattle.text.specs.Page.{page, text}
-use Rattle.text.specs.Page.Laws.{text-on}
+use Rattle.text.proofs.Page.Laws.{text-on}
 use Rattle.refusal_reports.specs.Reports.{line_text, report}
 use Rattle.refusal_reports.proofs.put_report.Statement.{statement}
 use Rattle.refusal_reports.proofs.put_report.Tie as tie

@@ -1,6 +1,6 @@
 -- The sentence, then a line feed.
 use borrow.Author.Rules.{rules}
-use Rattle.text.specs.Page.Laws.{text-on}
+use Rattle.text.proofs.Page.Laws.{text-on}
 use Rattle.refusal_reports.proofs.put_sentence_line.Statement.{statement}
 use Rattle.refusal_reports.proofs.put_sentence_line.Tie as tie
 

@@ -1,7 +1,7 @@
 -- What it opened as decides: nothing is said of a table, and the report of a refusal.
 use mathlib.Core.Path.{ap}
 use borrow.Author.Rules.{rules}
-use Rattle.text.specs.Page.Laws.{text-end}
+use Rattle.text.proofs.Page.Laws.{text-end}
 use Rattle.refusal_reports.specs.Reports.{explanation_of}
 use Rattle.refusal_reports.proofs.put_why.Statement.{statement}
 use Rattle.refusal_reports.proofs.put_why.Tie as tie

@@ -6,13 +6,9 @@ use Rattle.refusal_words.proofs.put_sentence.Tie as tie
 
 returns : tie.Need-returns
 unfolding bytes joined
-returns c = c.before.before.put-line.ensures
+returns c = c.put_line.ensures
 
-pub put-sentence-spec : {M : Type 1} → statement M
-put-sentence-spec =
+pub put_sentence_spec : {M : Type 1} → statement M
+put_sentence_spec =
     tie.close
-    (tie.spec
-    (λ c. search rules)
-    (λ c κs. search rules)
-    (λ c. search rules)
-    returns)
+    (tie.spec (λ c κs. search rules) (λ c. search rules) returns)

@@ -4,8 +4,8 @@ use mathlib.Core.Bool.{Bool}
 use native.Mathlib.Omega.{arith}
 use Rattle.implication.specs.Closure.{implication, in_force}
 use Rattle.context.specs.Places.{lowest}
-use Rattle.context.specs.Objects.{Object, objects_of, refutes, first_refuting}
-use Rattle.context.specs.Objects.Laws.{whole, lowest-whole, lowest-none, past-spares}
+use Rattle.context.specs.Objects.{Object, objects_of, refutes, first_refuting, whole}
+use Rattle.context.proofs.Objects.Laws.{lowest-whole, lowest-none, past-spares}
 use borrow.Author.Rules.{rules}
 use Rattle.refuting_rows.proofs.first_refuting.Statement.{statement}
 use Rattle.refuting_rows.proofs.first_refuting.Tie as tie

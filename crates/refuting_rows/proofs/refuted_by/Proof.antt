@@ -6,7 +6,7 @@ use borrow.Author.Rules.{rules}
 use Rattle.implication.specs.Closure.{implication, in_force}
 use Rattle.context.specs.Objects.{object}
 use Rattle.context.specs.Parts.{refuted_part}
-use Rattle.context.specs.Parts.Laws.{part-refutes}
+use Rattle.context.proofs.Parts.Laws.{part-refutes}
 use Rattle.refuting_rows.proofs.refuted_by.Statement.{statement}
 use Rattle.refuting_rows.proofs.refuted_by.Tie as tie
 

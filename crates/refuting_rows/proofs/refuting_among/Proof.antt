@@ -9,7 +9,7 @@ use native.Mathlib.Nat.{sub-zero}
 use lib.ListN.{drop, get_or}
 use Rattle.implication.specs.Closure.{implication, in_force}
 use Rattle.context.specs.Places.{lowest}
-use Rattle.context.specs.Places.Search.{pair_found, pair-passed, pair-none}
+use Rattle.context.proofs.Places.Search.{pair_found, pair-passed, pair-none}
 use Rattle.context.specs.Objects.{Object, object, objects_of, refutes, first_refuting}
 use Rattle.refuting_rows.proofs.refuting_among.Statement.{statement}
 use Rattle.refuting_rows.proofs.refuting_among.Tie as tie

@@ -12,9 +12,9 @@ use Rattle.size_checks.specs.Verdicts.{verdict_of}
 use Rattle.standing.specs.declared.Question.{Question}
 use Rattle.standing.specs.declared.Standing.{Standing}
 use Rattle.standing.specs.Standings.{question_of}
-use Rattle.standing.specs.Standings.Laws.{found-question}
+use Rattle.standing.proofs.Standings.Laws.{found-question}
 use Rattle.reply_checks.specs.Outcomes.{asking_after, asking}
-use Rattle.reply_checks.specs.Outcomes.Laws.{asking_from, yes-found}
+use Rattle.reply_checks.proofs.Outcomes.Laws.{asking_from, yes-found}
 use Rattle.reply_checks.proofs.check_yes.Statement.{statement}
 use Rattle.reply_checks.proofs.check_yes.Tie as tie
 

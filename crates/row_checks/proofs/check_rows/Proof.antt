@@ -1,7 +1,7 @@
 -- Where the empty set is asked about, the checks are these.
 use mathlib.Core.Path.{◌∙◌}
 use borrow.Author.Rules.{rules}
-use Rattle.row_checks.specs.Rows.Laws.{none-asked}
+use Rattle.row_checks.proofs.Rows.Laws.{none-asked}
 use Rattle.row_checks.proofs.check_rows.Statement.{statement}
 use Rattle.row_checks.proofs.check_rows.Tie as tie
 

@@ -1,7 +1,7 @@
 -- The checks of the session of the rows alone, where the set is asked about, are these.
 use mathlib.Core.Path.{◌∙◌}
 use borrow.Author.Rules.{rules}
-use Rattle.row_checks.specs.Rows.Laws.{as-session-with}
+use Rattle.row_checks.proofs.Rows.Laws.{as-session-with}
 use Rattle.row_checks.proofs.check_rows_with.Statement.{statement}
 use Rattle.row_checks.proofs.check_rows_with.Tie as tie
 

@@ -3,7 +3,7 @@
 use Rattle.std.specs.Prelude.{◌≡◌, List, ℕ, ◌≤◌, ◌<◌}
 use Rattle.session.specs.declared.Refusal.{Refusal}
 use Rattle.context.specs.Objects.{objects_of, marked_twice}
-use Rattle.demands.specs.Facts.Refused.{Lowest}
+use Rattle.demands.proofs.Facts.Refused.{Lowest}
 
 pub record RightRow (used : ℕ) (words : List ℕ) (r : Refusal) : Type 0 where
   pub number : (0 < r.number) × (r.number ≤ 5)

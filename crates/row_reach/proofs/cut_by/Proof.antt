@@ -5,7 +5,7 @@ use Rattle.attribute_set.specs.Sets.{without}
 use Rattle.implication.specs.Closure.{implication, in_force}
 use Rattle.context.specs.Objects.{object}
 use Rattle.context.specs.Parts.{refuted_part}
-use Rattle.reach.specs.Reach.Laws.{cut-part}
+use Rattle.reach.proofs.Reach.Laws.{cut-part}
 use Rattle.row_reach.proofs.cut_by.Statement.{statement}
 use Rattle.row_reach.proofs.cut_by.Tie as tie
 

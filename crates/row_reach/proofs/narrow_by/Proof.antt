@@ -8,7 +8,7 @@ use native.Mathlib.Nat.{sub-zero}
 use lib.ListN.{drop, get_or}
 use Rattle.theory.specs.Implications.{Implication}
 use Rattle.implication.specs.Closure.{in_force}
-use Rattle.implication.specs.Pairs.Laws.{pairs-at, pairs_end}
+use Rattle.implication.proofs.Pairs.Laws.{pairs-at, pairs_end}
 use Rattle.context.specs.Objects.{object, objects_of}
 use Rattle.reach.specs.Reach.{cut, narrow}
 use Rattle.row_reach.proofs.narrow_by.Statement.{statement}

@@ -4,7 +4,7 @@ use Prim.Native.Nat.{min}
 use Rattle.implication.specs.Closure.{in_force}
 use Rattle.context.specs.Objects.{objects_of}
 use Rattle.reach.specs.Reach.{narrow, reach}
-use Rattle.reach.specs.Reach.Laws.{reach-whole}
+use Rattle.reach.proofs.Reach.Laws.{reach-whole}
 use borrow.Author.Rules.{rules}
 use Rattle.row_reach.proofs.reach_of.Statement.{statement}
 use Rattle.row_reach.proofs.reach_of.Tie as tie

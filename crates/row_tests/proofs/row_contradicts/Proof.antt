@@ -7,7 +7,7 @@ use Rattle.row_tests.proofs.row_contradicts.Tie as tie
 
 returns : tie.Need-returns
 unfolding contradicts meets
-returns c = rw c.closure-of.ensures
+returns c = rw c.closure_of.ensures
 
-pub row-contradicts-spec : {M : Type 1} → statement M
-row-contradicts-spec = tie.close (tie.spec (λ c κs. search rules) returns)
+pub row_contradicts_spec : {M : Type 1} → statement M
+row_contradicts_spec = tie.close (tie.spec (λ c κs. search rules) returns)

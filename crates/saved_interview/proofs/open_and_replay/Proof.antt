@@ -4,7 +4,7 @@ use borrow.Author.Rules.{rules}
 use Rattle.machine.specs.Calls.{opening_from}
 use Rattle.session_opening.specs.declared.Opened.{Opened}
 use Rattle.session_opening.specs.Opening.{opening_of}
-use Rattle.saved_interview.specs.TakingUp.Theorem.{refused-outcome, replay-outcome}
+use Rattle.saved_interview.proofs.TakingUp.Theorem.{refused-outcome, replay-outcome}
 use Rattle.saved_interview.proofs.open_and_replay.Statement.{statement}
 use Rattle.saved_interview.proofs.open_and_replay.Tie as tie
 

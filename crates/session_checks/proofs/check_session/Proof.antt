@@ -11,7 +11,7 @@ use Rattle.session.specs.Refusals.{refusal}
 use Rattle.theory.specs.Implications.{Implication}
 use Rattle.implication.specs.Closure.{implication}
 use Rattle.machine.specs.Checks.{State, Check, first_failing, outside_m, session_checks}
-use Rattle.machine.specs.Checks.Laws.{passed, failing-first, failing-here, failing-later, failing-append, sizes-fit}
+use Rattle.machine.proofs.Checks.Laws.{passed, failing-first, failing-here, failing-later, failing-append, sizes-fit}
 use Rattle.machine.specs.Calls.{state_of}
 use Rattle.size_checks.specs.Verdicts.{verdict_of}
 use Rattle.session_checks.specs.Checked.{first_of}
@@ -43,77 +43,54 @@ module _ (s : State) (asked : List (Implication ℕ)) (small : first_failing (ta
   unfolding session_checks
   inside-passes e = after_small ∙ failing-later _ _ (sym decided ∙ e)
 
-abbrev start : tie.After-check-sizes → tie.Start
-start c = c.before.before.before.before
-
-abbrev state : tie.After-check-sizes → State
-state c = let a = (start c).args in state_of a.session a.rows.now a.list.now a.background.now
+abbrev state : tie.After-check_sizes-small → State
+state c = let a = c.args in state_of a.session a.rows.now a.list.now a.background.now
 
 -- the rule asked about
-abbrev asked : tie.After-check-sizes → List (Implication ℕ)
-asked c = let a = (start c).args in implication a.premise a.conclusion ∷ []
+abbrev asked : tie.After-check_sizes-small → List (Implication ℕ)
+asked c = let a = c.args in implication a.premise a.conclusion ∷ []
 
-abbrev checks : tie.After-check-sizes → List Check
+abbrev checks : tie.After-check_sizes-small → List Check
 checks c = session_checks (state c) (asked c)
 
 -- what each part says
-sizes-decided : (c : tie.After-check-sizes) → first_failing (take 3 (checks c)) ≡ verdict_of c.check-sizes.result
-sizes-decided c = sym (c.check-sizes.ensures (asked c))
+sizes-decided : (c : tie.After-check_sizes-small) → first_failing (take 3 (checks c)) ≡ verdict_of c.check_sizes-small.result
+sizes-decided c = sym (c.check_sizes-small.ensures (asked c))
 
--- the sizes passed
-abbrev sized : tie.After-enum-told → tie.After-check-sizes
-sized c = c.before.before
-
-small : (c : tie.After-enum-told) → first_failing (take 3 (checks (sized c))) ≡ none
-small c = sizes-decided (sized c) ∙ ap verdict_of c.enum_told.given.1
+small : (c : tie.In_default) → first_failing (take 3 (checks c.before)) ≡ none
+small c = sizes-decided c.before ∙ ap verdict_of c.in_default.is
 
 -- so whether something is outside M decides
-outside-decided : (c : tie.After-check-outside)
-    → let d = sized c.before in
-    c.check-outside.result ≡ outside_m (state d) (asked d)
+outside-decided : (c : tie.After-check_outside)
+    → c.check_outside.result ≡ outside_m (state c.before.before) (asked c.before.before)
 outside-decided c =
-    let d = sized c.before in
-    c.check-outside.ensures (sizes-fit (state d) (asked d) (small c.before))
+    c.check_outside.ensures (sizes-fit (state c.before.before) (asked c.before.before) (small c.before))
 
--- nothing is outside M
-abbrev sized_inside : tie.Else1 → tie.After-check-sizes
-sized_inside c = sized c.before.before
-
-after-outside : (c : tie.Else1) → let cs = checks (sized_inside c) in first_failing cs ≡ first_failing (drop 4 cs)
+after-outside : (c : tie.Else-check_outside) → let cs = checks c.before.before.before in first_failing cs ≡ first_failing (drop 4 cs)
 after-outside c =
-    let d = sized_inside c in
-    inside-passes (state d) (asked d) (small c.before.before) (outside-decided c.before) c.if1.false
+    inside-passes (state c.before.before.before) (asked c.before.before.before) (small c.before.before) (outside-decided c.before) c.if-check_outside.false
 
--- the verdict of the marks decides, or that of check 7
-abbrev sized_marked : tie.After-check-marks → tie.After-check-sizes
-sized_marked c = sized_inside c.before
+marks-decided : (c : tie.After-check_marks-marked) → verdict_of c.check_marks-marked.result ≡ first_failing (take 2 (drop 4 (checks c.before.before.before.before)))
+marks-decided c = c.check_marks-marked.ensures (asked c.before.before.before.before)
 
-marks-decided : (c : tie.After-check-marks) → verdict_of c.check-marks.result ≡ first_failing (take 2 (drop 4 (checks (sized_marked c))))
-marks-decided c = c.check-marks.ensures (asked (sized_marked c))
-
-returns : tie.Need-returns
+returns : tie.Need-returns-in-Refused
 unfolding session_checks
 returns c =
-    let d = c.before.before.before in
-    let cs = checks d in
-    sym (failing-first (take 3 cs) (drop 3 cs) _ (sizes-decided d ∙ ap verdict_of c.before.small.given.1))
+    let cs = checks c.before in
+    sym (failing-first (take 3 cs) (drop 3 cs) _ (sizes-decided c.before ∙ ap verdict_of c.in-Refused.is))
 
-returns-2 : tie.Need-returns-2
+returns-2 : tie.Need-returns-then-check_outside
 returns-2 c =
-    let d = c.before in
-    let e = sized d.before.before in
-    c.refused.ensures ∙ sym (outside-fails (state e) (asked e) (small d.before.before) (outside-decided d.before) d.if1.true)
+    c.refused.ensures ∙ sym (outside-fails (state c.before.before.before.before) (asked c.before.before.before.before) (small c.before.before.before) (outside-decided c.before.before) c.if-check_outside.true)
 
-returns-3 : tie.Need-returns-3
+returns-3 : tie.Need-returns
 unfolding session_checks
 returns-3 c =
-    let e = c.before in
-    let d = e.before in
-    let cs = checks (sized_marked d) in
-    c.earlier.ensures ∙ joined (take 2 (drop 4 cs)) (drop 6 cs) (marks-decided d) e.check-closed.ensures ∙ sym (after-outside d.before)
+    let cs = checks c.before.before.before.before.before.before in
+    c.earlier.ensures ∙ joined (take 2 (drop 4 cs)) (drop 6 cs) (marks-decided c.before.before) c.check_closed-closed.ensures ∙ sym (after-outside c.before.before.before)
 
-pub check-session-spec : {M : Type 1} → statement M
-check-session-spec =
+pub check_session_spec : {M : Type 1} → statement M
+check_session_spec =
     tie.close
     (tie.spec
     (λ c κs. search rules)

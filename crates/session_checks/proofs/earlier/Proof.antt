@@ -6,11 +6,15 @@ use Rattle.session_checks.specs.Checked.{first_of}
 use Rattle.session_checks.proofs.earlier.Statement.{statement}
 use Rattle.session_checks.proofs.earlier.Tie as tie
 
-returns : tie.Need-returns
-returns c = sym (ap (λ v. first_of (verdict_of v) (verdict_of c.before.before.before.args.second)) c.before.first.given.1)
+returns : tie.Need-returns-in-Refused
+returns c = sym (ap (λ v. first_of (verdict_of v) (verdict_of c.args.second)) c.in-Refused.is)
 
-returns-2 : tie.Need-returns-2
-returns-2 c = sym (ap (λ v. first_of (verdict_of v) (verdict_of c.before.before.args.second)) c.enum_told.given.1)
+returns-2 : tie.Need-returns-in-Passed
+returns-2 c = sym (ap (λ v. first_of (verdict_of v) (verdict_of c.args.second)) c.in-Passed.is)
 
-pub earlier-spec : {M : Type 1} → statement M
-earlier-spec = tie.close (tie.spec (λ c. search rules) (λ c. search rules) returns returns-2)
+pub earlier_spec : {M : Type 1} → statement M
+earlier_spec = tie.close (tie.spec
+    (λ c. search rules)
+    (λ c. search rules)
+    returns
+    returns-2)

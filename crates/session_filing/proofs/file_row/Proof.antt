@@ -7,14 +7,14 @@ use Rattle.implication.specs.Closure.{implication}
 use Rattle.context.specs.Objects.{Object, object}
 use Rattle.session.specs.declared.Refusal.{Refusal}
 use Rattle.machine.specs.Checks.{State, first_failing, session_checks, filing_checks}
-use Rattle.machine.specs.Checks.Laws.{failing-first, unasked}
+use Rattle.machine.proofs.Checks.Laws.{failing-first, unasked}
 use Rattle.machine.specs.Machine.{file, turn, refused, checks_of, perform}
-use Rattle.machine.specs.Machine.Laws.{perform-refused}
+use Rattle.machine.proofs.Machine.Laws.{perform-refused}
 use Rattle.machine.specs.Calls.{state_of}
 use Rattle.size_checks.specs.declared.Verdict.{Verdict}
 use Rattle.size_checks.specs.Verdicts.{verdict_of}
-use Rattle.session_replies.specs.Answers.Laws.{refused-turns}
-use Rattle.checked_filing.specs.Checked.Laws.{checked-turns}
+use Rattle.session_replies.proofs.Answers.Laws.{refused-turns}
+use Rattle.checked_filing.proofs.Checked.Laws.{checked-turns}
 use Rattle.session_filing.proofs.file_row.Statement.{statement}
 use Rattle.session_filing.proofs.file_row.Tie as tie
 

@@ -9,17 +9,17 @@ use lib.ListN.{length, get_or}
 use lib.Dec.{leb}
 use borrow.Author.Rules.{rules}
 use borrow.Author.Tests.{le-leb, lt-leb}
-use Rattle.implication.specs.Pairs.Laws.{length_pairs}
+use Rattle.implication.proofs.Pairs.Laws.{length_pairs}
 use Rattle.implication.specs.Closure.{implication}
 use Rattle.context.specs.Objects.{Object, object, contradicts}
 use Rattle.context.specs.Filling.{joined, reverses}
 use Rattle.machine.specs.Checks.{State, force, Check, check, bad_row, first_failing, session_checks, fill_checks}
-use Rattle.machine.specs.Checks.Laws.{passed, failing-append, failing-first, failing-here, failing-later, unasked}
+use Rattle.machine.proofs.Checks.Laws.{passed, failing-append, failing-first, failing-here, failing-later, unasked}
 use Rattle.machine.specs.Machine.{fill, checks_of}
 use Rattle.machine.specs.Calls.{state_of}
 use Rattle.size_checks.specs.declared.Verdict.{Verdict}
 use Rattle.size_checks.specs.Verdicts.{verdict_of}
-use Rattle.session_late_marks.specs.Marks.Laws.{used-room, row_words}
+use Rattle.session_late_marks.proofs.Marks.Laws.{used-room, row_words}
 use Rattle.session_late_marks.proofs.check_fill.Statement.{statement}
 use Rattle.session_late_marks.proofs.check_fill.Tie as tie
 

@@ -8,12 +8,12 @@ use borrow.Author.Rules.{rules}
 use Rattle.context.specs.Objects.{object}
 use Rattle.machine.specs.Checks.{State, first_failing}
 use Rattle.machine.specs.Machine.{Call, fill, taken, checks_of}
-use Rattle.machine.specs.Machine.Laws.{perform-refused}
+use Rattle.machine.proofs.Machine.Laws.{perform-refused}
 use Rattle.machine.specs.Calls.{state_of, MadeFrom}
-use Rattle.machine.specs.Calls.Laws.{performs}
+use Rattle.machine.proofs.Calls.Laws.{performs}
 use Rattle.size_checks.specs.declared.Verdict.{Verdict}
 use Rattle.size_checks.specs.Verdicts.{verdict_of}
-use Rattle.session_late_marks.specs.Marks.Laws.{fill-room, fill-made}
+use Rattle.session_late_marks.proofs.Marks.Laws.{fill-room, fill-made}
 use Rattle.session_late_marks.proofs.fill_row.Statement.{statement}
 use Rattle.session_late_marks.proofs.fill_row.Tie as tie
 

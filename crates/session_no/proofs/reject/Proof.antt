@@ -4,13 +4,13 @@ use borrow.Author.Rules.{rules}
 use Rattle.context.specs.Objects.{Object, object}
 use Rattle.machine.specs.Checks.{State}
 use Rattle.machine.specs.Machine.{test, perform}
-use Rattle.demands.specs.InTurn.Theorem.{no-refused, no-filed}
+use Rattle.demands.proofs.InTurn.Theorem.{no-refused, no-filed}
 use Rattle.machine.specs.Calls.{state_of}
-use Rattle.machine.specs.Calls.Laws.{as_call}
+use Rattle.machine.proofs.Calls.Laws.{as_call}
 use Rattle.session_test.specs.declared.Testing.{Testing}
 use Rattle.session_test.specs.Answers.{testing_answer}
-use Rattle.session_replies.specs.Answers.Laws.{refused-turns}
-use Rattle.checked_filing.specs.Checked.Laws.{checked-turns}
+use Rattle.session_replies.proofs.Answers.Laws.{refused-turns}
+use Rattle.checked_filing.proofs.Checked.Laws.{checked-turns}
 use Rattle.session_no.proofs.reject.Statement.{statement}
 use Rattle.session_no.proofs.reject.Tie as tie
 

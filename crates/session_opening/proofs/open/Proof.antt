@@ -6,11 +6,11 @@ use borrow.Author.Rules.{rules}
 use Rattle.implication.specs.Closure.{all_implications}
 use Rattle.context.specs.Objects.{objects_of}
 use Rattle.machine.specs.Checks.{State, first_failing, session_checks}
-use Rattle.machine.specs.Checks.Laws.{unasked}
+use Rattle.machine.proofs.Checks.Laws.{unasked}
 use Rattle.machine.specs.Machine.{opened, opening, opening_state}
 use Rattle.machine.specs.Calls.{state_of}
 use Rattle.size_checks.specs.Verdicts.{verdict_of}
-use Rattle.session_opening.specs.Opening.Laws.{state_opened}
+use Rattle.session_opening.proofs.Opening.Laws.{state_opened}
 use Rattle.session_opening.proofs.«open».Statement.{statement}
 use Rattle.session_opening.proofs.«open».Tie as tie
 

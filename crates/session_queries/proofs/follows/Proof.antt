@@ -5,12 +5,12 @@ use Rattle.session.specs.declared.Refusal.{Refusal}
 use Rattle.implication.specs.Closure.{implication}
 use Rattle.machine.specs.Checks.{State}
 use Rattle.machine.specs.Machine.{Call, turn, follow, followed, refused, checks_of, perform}
-use Rattle.machine.specs.Machine.Laws.{perform-refused}
+use Rattle.machine.proofs.Machine.Laws.{perform-refused}
 use Rattle.size_checks.specs.declared.Verdict.TheVariants.{Refused}
 use Rattle.machine.specs.Calls.{state_of}
-use Rattle.machine.specs.Calls.Laws.{performs}
+use Rattle.machine.proofs.Calls.Laws.{performs}
 use Rattle.size_checks.specs.Verdicts.{verdict_of}
-use Rattle.session_queries.specs.Answers.Laws.{follow-answers}
+use Rattle.session_queries.proofs.Answers.Laws.{follow-answers}
 use Rattle.session_queries.proofs.follows.Statement.{statement}
 use Rattle.session_queries.proofs.follows.Tie as tie
 

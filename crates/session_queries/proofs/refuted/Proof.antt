@@ -3,17 +3,17 @@ use mathlib.Core.Path.{◌≡◌, refl, sym, ap, ◌∙◌}
 use borrow.Author.Rules.{rules}
 use borrow.Author.Tests.{lt-ltb, le-ltb}
 use Rattle.session.specs.declared.Refusal.{Refusal}
-use Rattle.implication.specs.Pairs.Laws.{length_pairs}
+use Rattle.implication.proofs.Pairs.Laws.{length_pairs}
 use Rattle.implication.specs.Closure.{implication}
 use Rattle.context.specs.Objects.{object}
 use Rattle.machine.specs.Checks.{State}
 use Rattle.machine.specs.Machine.{Call, turn, refute, refuted_at, refused, checks_of, perform}
-use Rattle.machine.specs.Machine.Laws.{perform-refused}
+use Rattle.machine.proofs.Machine.Laws.{perform-refused}
 use Rattle.size_checks.specs.declared.Verdict.TheVariants.{Refused}
 use Rattle.machine.specs.Calls.{state_of}
-use Rattle.machine.specs.Calls.Laws.{performs}
+use Rattle.machine.proofs.Calls.Laws.{performs}
 use Rattle.size_checks.specs.Verdicts.{verdict_of}
-use Rattle.session_queries.specs.Answers.Laws.{refute-answers}
+use Rattle.session_queries.proofs.Answers.Laws.{refute-answers}
 use Rattle.session_queries.proofs.refuted.Statement.{statement}
 use Rattle.session_queries.proofs.refuted.Tie as tie
 

@@ -4,9 +4,9 @@ use borrow.Author.Rules.{rules}
 use Rattle.machine.specs.Checks.{State}
 use Rattle.machine.specs.Machine.{step, perform}
 use Rattle.machine.specs.Calls.{state_of}
-use Rattle.machine.specs.Calls.Laws.{performs, turns}
+use Rattle.machine.proofs.Calls.Laws.{performs, turns}
 use Rattle.standing.specs.declared.Standing.{Standing}
-use Rattle.session_steps.specs.Answers.Laws.{step_from, step-found, step-moved}
+use Rattle.session_steps.proofs.Answers.Laws.{step_from, step-found, step-moved}
 use Rattle.session_steps.proofs.make_step.Statement.{statement}
 use Rattle.session_steps.proofs.make_step.Tie as tie
 

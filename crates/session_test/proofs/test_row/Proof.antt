@@ -4,12 +4,12 @@ use borrow.Author.Rules.{rules}
 use Rattle.context.specs.Objects.{object}
 use Rattle.machine.specs.Checks.{State}
 use Rattle.machine.specs.Machine.{Call, test, performed}
-use Rattle.machine.specs.Machine.Laws.{perform-accepted, perform-refused}
+use Rattle.machine.proofs.Machine.Laws.{perform-accepted, perform-refused}
 use Rattle.machine.specs.Calls.{state_of}
-use Rattle.machine.specs.Calls.Laws.{performs}
+use Rattle.machine.proofs.Calls.Laws.{performs}
 use Rattle.reply_checks.specs.declared.Asking.{Asking}
 use Rattle.reply_checks.specs.Outcomes.{asking}
-use Rattle.reply_checks.specs.Outcomes.Laws.{asking-question, asking-refused}
+use Rattle.reply_checks.proofs.Outcomes.Laws.{asking-question, asking-refused}
 use Rattle.session_test.proofs.test_row.Statement.{statement}
 use Rattle.session_test.proofs.test_row.Tie as tie
 

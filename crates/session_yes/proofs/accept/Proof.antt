@@ -6,19 +6,19 @@ use Prim.Native.Nat.{◌+◌, ◌*◌, ◌<◌}
 use native.Mathlib.Omega.{arith}
 use lib.ListN.{length, length-set}
 use borrow.Author.Rules.{rules}
-use Rattle.implication.specs.Pairs.Laws.{length_pairs}
+use Rattle.implication.proofs.Pairs.Laws.{length_pairs}
 use Rattle.implication.specs.Closure.{implication}
 use Rattle.machine.specs.Checks.{State, first_failing}
 use Rattle.machine.specs.Machine.{accept, taken, turn, after_yes, checks_of, performed, perform}
-use Rattle.machine.specs.Machine.Laws.{perform-accepted, perform-refused}
+use Rattle.machine.proofs.Machine.Laws.{perform-accepted, perform-refused}
 use Rattle.machine.specs.Calls.{state_of}
-use Rattle.machine.specs.Calls.Laws.{performs, turns}
+use Rattle.machine.proofs.Calls.Laws.{performs, turns}
 use Rattle.standing.specs.declared.Question.{Question}
 use Rattle.standing.specs.Standings.{question_of}
 use Rattle.reply_checks.specs.declared.Asking.{Asking}
 use Rattle.reply_checks.specs.Outcomes.{asking}
-use Rattle.reply_checks.specs.Outcomes.Laws.{asking-question, asking-refused}
-use Rattle.session_replies.specs.Answers.Laws.{yes-small, yes-leaves, refused-turns, written}
+use Rattle.reply_checks.proofs.Outcomes.Laws.{asking-question, asking-refused}
+use Rattle.session_replies.proofs.Answers.Laws.{yes-small, yes-leaves, refused-turns, written}
 use Rattle.session_yes.proofs.accept.Statement.{statement}
 use Rattle.session_yes.proofs.accept.Tie as tie
 

@@ -12,16 +12,20 @@ use Rattle.set_words.proofs.below_of.Reads as reads
 use Rattle.set_words.proofs.below_of.Lts as lts
 use Rattle.set_words.proofs.single.Reads as single-Reads
 
-returns : tie.Need-returns
-returns c = sym (mod-eq_of_lt (lt_of_lt_of_le c.before.ranges.set.fits (pow_mono c.if1.true)))
+returns : tie.Need-returns-then-j-ge64
+returns c = sym (mod-eq_of_lt (lt_of_lt_of_le c.ranges.set.fits (pow_mono c.if-j-ge64.true)))
 
-sub-result : tie.Need-overflow-sub-result
-sub-result c = omega (arith, c.single.ensures, pow_pos c.before.before.args.j)
+sub-result : tie.Need-overflow_sub-result
+sub-result c = omega (arith, c.single.ensures, pow_pos c.args.j)
 
-returns-2 : tie.Need-returns-2
+returns-2 : tie.Need-returns
 returns-2 c =
-    let a = c.before.before.args in
+    let a = c.args in
     ap (λ b. bit_and a.set (b - 1)) c.single.ensures ∙ and_mask a.set a.j
 
-pub below-of-spec : {M : Type 1} → statement M
-below-of-spec = tie.close (tie.spec returns (λ c κs. search rules) sub-result returns-2)
+pub below_of_spec : {M : Type 1} → statement M
+below_of_spec = tie.close (tie.spec
+    returns
+    (λ c κs. search rules)
+    sub-result
+    returns-2)

@@ -7,12 +7,12 @@ use Rattle.set_words.proofs.difference.Tie as tie
 use Rattle.set_words.proofs.difference.Reads as reads
 use Rattle.set_words.proofs.difference.Lts as lts
 
-sub-result : tie.Need-overflow-sub-result
+sub-result : tie.Need-overflow_sub-result
 sub-result c = and_le_l _ _
 
 returns : tie.Need-returns
 unfolding without
 returns c = refl
 
-pub difference-spec : {M : Type 1} → statement M
-difference-spec = tie.close (tie.spec sub-result returns)
+pub difference_spec : {M : Type 1} → statement M
+difference_spec = tie.close (tie.spec sub-result returns)

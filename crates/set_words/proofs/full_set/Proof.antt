@@ -11,20 +11,24 @@ use Rattle.set_words.proofs.full_set.Reads as reads
 use Rattle.set_words.proofs.full_set.Lts as lts
 use Rattle.set_words.proofs.single.Reads as single-Reads
 
-returns : tie.Need-returns
+returns : tie.Need-returns-then-n-ge64
 unfolding full
 returns c =
-    let e : min c.before.args.n 64 ≡ 64 = omega arith in
+    let e : min c.args.n 64 ≡ 64 = omega arith in
     rw e
 
-sub-result : tie.Need-overflow-sub-result
-sub-result c = omega (arith, c.single.ensures, pow_pos c.before.before.args.n)
+sub-result : tie.Need-overflow_sub-result
+sub-result c = omega (arith, c.single.ensures, pow_pos c.args.n)
 
-returns-2 : tie.Need-returns-2
+returns-2 : tie.Need-returns
 unfolding full
 returns-2 c =
-    let e : min c.before.before.args.n 64 ≡ c.before.before.args.n = omega arith in
+    let e : min c.args.n 64 ≡ c.args.n = omega arith in
     rw e (ap (λ k. k - 1) c.single.ensures)
 
-pub full-set-spec : {M : Type 1} → statement M
-full-set-spec = tie.close (tie.spec returns (λ c κs. search rules) sub-result returns-2)
+pub full_set_spec : {M : Type 1} → statement M
+full_set_spec = tie.close (tie.spec
+    returns
+    (λ c κs. search rules)
+    sub-result
+    returns-2)

@@ -13,5 +13,5 @@ use Rattle.set_words.proofs.single.Lts as lts
 returns : tie.Need-returns
 returns c = shl_exact {a = 1} 1 c.args.j 64 (lit< tt) (omega arith) ∙ one-mul _
 
-pub single-spec : {M : Type 1} → statement M
-single-spec = tie.close (tie.spec (λ c. search rules) returns)
+pub single_spec : {M : Type 1} → statement M
+single_spec = tie.close (tie.spec (λ c. search rules) returns)

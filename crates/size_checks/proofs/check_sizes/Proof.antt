@@ -7,11 +7,11 @@ use lib.ListN.{length, take, drop}
 use lib.Dec.{ltb}
 use borrow.Author.Rules.{rules}
 use Rattle.theory.specs.Implications.{Implication}
-use Rattle.implication.specs.Pairs.Laws.{length_pairs}
+use Rattle.implication.proofs.Pairs.Laws.{length_pairs}
 use Rattle.implication.specs.Closure.{implication}
 use Rattle.context.specs.Objects.{object}
 use Rattle.machine.specs.Checks.{State, Check, first_failing, session_checks}
-use Rattle.machine.specs.Checks.Laws.{failing-nothing, failing-here, failing-later}
+use Rattle.machine.proofs.Checks.Laws.{failing-nothing, failing-here, failing-later}
 use Rattle.machine.specs.Calls.{state_of}
 use Rattle.size_checks.proofs.check_sizes.Statement.{statement}
 use Rattle.size_checks.proofs.check_sizes.Tie as tie
@@ -22,61 +22,46 @@ state c = let a = c.args in state_of a.session a.rows.now a.list.now a.backgroun
 abbrev checks : tie.Start → List (Implication ℕ) → List Check
 checks c asked = take 3 (session_checks (state c) asked)
 
-abbrev counted : tie.After-bad-count → tie.Start
-counted c = c.before.before.before.before
-
-abbrev start : tie.Else1 → tie.Start
-start c = counted c.before
-
-after-1 : (c : tie.Else1) (asked : List (Implication ℕ)) → let cs = checks (start c) asked in first_failing cs ≡ first_failing (drop 1 cs)
+after-1 : (c : tie.Else-bad_count) (asked : List (Implication ℕ)) → let cs = checks c.before.before.before.before.before asked in first_failing cs ≡ first_failing (drop 1 cs)
 unfolding session_checks
-after-1 c asked = failing-later _ _ (sym c.before.bad-count.ensures ∙ c.if1.false)
+after-1 c asked = failing-later _ _ (sym c.bad_count.ensures ∙ c.if-bad_count.false)
 
-abbrev start_2 : tie.Else2 → tie.Start
-start_2 c = start c.before.before
-
-after-2 : (c : tie.Else2) (asked : List (Implication ℕ)) → let cs = checks (start_2 c) asked in first_failing cs ≡ first_failing (drop 2 cs)
+after-2 : (c : tie.Else-bad_lengths) (asked : List (Implication ℕ)) → let cs = checks c.before.before.before.before.before.before.before asked in first_failing cs ≡ first_failing (drop 2 cs)
 unfolding session_checks
-after-2 c asked = after-1 c.before.before asked ∙ failing-later _ _ (sym c.before.bad-lengths.ensures ∙ c.if2.false)
+after-2 c asked = after-1 c.before.before asked ∙ failing-later _ _ (sym c.bad_lengths.ensures ∙ c.if-bad_lengths.false)
 
 -- the test of check 3
-abbrev start_3 : tie.After-bad-places → tie.Start
-start_3 c = start_2 c.before
-
-three : (c : tie.After-bad-places)
-    → let s = state (start_3 c) in
-    c.bad-places.result ≡ (ltb (s.lent.rows / 2) (length s.rows) || ltb (s.lent.list / 2) (length s.list))
+three : (c : tie.After-bad_places)
+    → let s = state c.before.before.before.before.before.before.before.before in
+    c.bad_places.result ≡ (ltb (s.lent.rows / 2) (length s.rows) || ltb (s.lent.list / 2) (length s.list))
 three c =
-    let a = (start_3 c).args in
-    c.bad-places.ensures
+    let a = c.args in
+    c.bad_places.ensures
     ∙ sym (ap₂ (λ (k l : ℕ). ltb (length a.rows.now / 2) k || ltb (length a.list.now / 2) l)
     (length_pairs object a.session.rows a.rows.now) (length_pairs implication a.session.rules a.list.now))
 
-returns : tie.Need-returns
+returns : tie.Need-returns-then-bad_count
 unfolding session_checks
 returns c asked =
-    let d = c.before in
-    c.refused.ensures ∙ sym (failing-here _ (drop 1 (checks (counted d.before) asked)) (sym d.before.bad-count.ensures ∙ d.if1.true))
+    c.refused.ensures ∙ sym (failing-here _ (drop 1 (checks c.before.before.before.before.before.before asked)) (sym c.bad_count.ensures ∙ c.if-bad_count.true))
 
-returns-2 : tie.Need-returns-2
+returns-2 : tie.Need-returns-then-bad_lengths
 unfolding session_checks
 returns-2 c asked =
-    let d = c.before in
-    c.refused2.ensures
-    ∙ sym (after-1 d.before.before asked ∙ failing-here _ _ (sym d.before.bad-lengths.ensures ∙ d.if2.true))
+    c.refused-then-bad_lengths.ensures
+    ∙ sym (after-1 c.before.before.before asked ∙ failing-here _ _ (sym c.bad_lengths.ensures ∙ c.if-bad_lengths.true))
 
-returns-3 : tie.Need-returns-3
+returns-3 : tie.Need-returns-then-bad_places
 unfolding session_checks
 returns-3 c asked =
-    let d = c.before in
-    c.refused3.ensures ∙ sym (after-2 d.before.before asked ∙ failing-here _ _ (sym (three d.before) ∙ d.if3.true))
+    c.refused-then-bad_places.ensures ∙ sym (after-2 c.before.before.before asked ∙ failing-here _ _ (sym (three c.before.before) ∙ c.if-bad_places.true))
 
-returns-4 : tie.Need-returns-4
+returns-4 : tie.Need-returns
 unfolding session_checks
-returns-4 c asked = sym (after-2 c.before.before asked ∙ failing-later _ _ (sym (three c.before) ∙ c.if3.false) ∙ failing-nothing)
+returns-4 c asked = sym (after-2 c.before.before asked ∙ failing-later _ _ (sym (three c.before) ∙ c.if-bad_places.false) ∙ failing-nothing)
 
-pub check-sizes-spec : {M : Type 1} → statement M
-check-sizes-spec =
+pub check_sizes_spec : {M : Type 1} → statement M
+check_sizes_spec =
     tie.close
     (tie.spec
     (λ c κs. search rules)

@@ -16,16 +16,16 @@ places most words even = go (ltb (most * 2) words) refl
     go true e = lt-ltb most (words / 2) (omega (arith, ltb-true (most * 2) words e))
     go false e = le-ltb most (words / 2) (omega (arith, ltb-false (most * 2) words e))
 
-returns : tie.Need-returns
+returns : tie.Need-returns-then-words-ne0
 unfolding bad_length
-returns c = rw (ne_eqb (c.before.args.words % 2) 0 (λ e. omega arith))
+returns c = rw (ne_eqb (c.args.words % 2) 0 (λ e. omega arith))
 
-returns-2 : tie.Need-returns-2
+returns-2 : tie.Need-returns
 unfolding bad_length
 returns-2 c =
-    let a = c.before.args in
+    let a = c.args in
     let even : a.words % 2 ≡ 0 = omega arith in
     rw (eq-eqb (a.words % 2) 0 even) (places a.most a.words even)
 
-pub bad-length-spec : {M : Type 1} → statement M
-bad-length-spec = tie.close (tie.spec returns returns-2)
+pub bad_length_spec : {M : Type 1} → statement M
+bad_length_spec = tie.close (tie.spec returns returns-2)

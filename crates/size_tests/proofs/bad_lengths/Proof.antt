@@ -3,20 +3,19 @@ use borrow.Author.Rules.{rules}
 use Rattle.size_tests.proofs.bad_lengths.Statement.{statement}
 use Rattle.size_tests.proofs.bad_lengths.Tie as tie
 
-returns : tie.Need-returns
-returns c = rw (← c.before.bad-length.ensures, c.if1.true)
+returns : tie.Need-returns-then-bad_length
+returns c = rw (← c.bad_length.ensures, c.if-bad_length.true)
 
-returns-2 : tie.Need-returns-2
+returns-2 : tie.Need-returns-then-bad_length-2
 returns-2 c =
-    rw (← c.before.before.before.bad-length.ensures, c.before.before.if1.false, ← c.before.bad-length2.ensures, c.if2.true)
+    rw (← c.bad_length.ensures, c.if-bad_length.false, ← c.bad_length-2.ensures, c.if-bad_length-2.true)
 
-returns-3 : tie.Need-returns-3
+returns-3 : tie.Need-returns
 returns-3 c =
-    let d = c.before.before.before in
-    rw (← d.before.bad-length.ensures, d.if1.false, ← c.before.before.bad-length2.ensures, c.before.if2.false) c.bad-length3.ensures
+    rw (← c.bad_length.ensures, c.if-bad_length.false, ← c.bad_length-2.ensures, c.if-bad_length-2.false) c.bad_length-3.ensures
 
-pub bad-lengths-spec : {M : Type 1} → statement M
-bad-lengths-spec =
+pub bad_lengths_spec : {M : Type 1} → statement M
+bad_lengths_spec =
     tie.close
     (tie.spec
     (λ c κs. search rules)

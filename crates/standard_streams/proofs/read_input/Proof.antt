@@ -9,18 +9,18 @@ use borrow.Author.Rules.{rules}
 use Rattle.standard_streams.proofs.read_input.Statement.{statement}
 use Rattle.standard_streams.proofs.read_input.Tie as tie
 
-abbrev invariant-loop : tie.invariant-loop
+abbrev invariant-loop : tie.invariant-loop-size
 invariant-loop fd file₀ size₀ file size = (size ≤ length file) × (length file ≡ length file₀)
 
-abbrev decreases-loop : tie.decreases-loop
+abbrev decreases-loop : tie.decreases-loop-size
 decreases-loop fd file₀ size₀ file size = length file - size
 
 -- so many bytes at the start of the buffer
 counts : (k : ℕ) (xs : List ℕ) → k ≤ length xs → IsPrefixLen k xs
 counts k xs h = (h, sym (length-take-le k xs h))
 
-pub read-input-spec : {M : Type 1} → statement M
-read-input-spec =
+pub read_input_spec : {M : Type 1} → statement M
+read_input_spec =
     tie.close
     (tie.spec
     invariant-loop

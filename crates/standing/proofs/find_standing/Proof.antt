@@ -9,10 +9,10 @@ use Rattle.session.specs.declared.Refusal.{Refusal}
 use Rattle.attribute_set.specs.Sets.{full, without}
 use Rattle.reach.specs.Reach.{reach}
 use Rattle.machine.specs.Checks.{State, first_failing, session_checks, reach_of, force}
-use Rattle.machine.specs.Checks.Laws.{unasked, checked-small}
+use Rattle.machine.proofs.Checks.Laws.{unasked, checked-small}
 use Rattle.machine.specs.Calls.{state_of}
 use Rattle.size_checks.specs.Verdicts.{verdict_of}
-use Rattle.standing.specs.Standings.Laws.{found-refused, found-full, found-tight, found-open}
+use Rattle.standing.proofs.Standings.Laws.{found-refused, found-full, found-tight, found-open}
 use Rattle.standing.proofs.find_standing.Statement.{statement}
 use Rattle.standing.proofs.find_standing.Tie as tie
 

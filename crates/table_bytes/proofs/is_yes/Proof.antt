@@ -5,16 +5,16 @@ use borrow.Author.Tests.{ne_eqb}
 use Rattle.table_bytes.proofs.is_yes.Statement.{statement}
 use Rattle.table_bytes.proofs.is_yes.Tie as tie
 
-returns : tie.Need-returns
-returns c = let e : c.before.args.b ≡ 88 = omega arith in rw e
+returns : tie.Need-returns-in-88
+returns c = let e : c.args.b ≡ 88 = omega arith in rw e
 
-returns-2 : tie.Need-returns-2
-returns-2 c = let e : c.before.args.b ≡ 120 = omega arith in rw e
+returns-2 : tie.Need-returns-in-120
+returns-2 c = let e : c.args.b ≡ 120 = omega arith in rw e
 
-returns-3 : tie.Need-returns-3
+returns-3 : tie.Need-returns-in_default
 returns-3 c =
-    let b = c.before.args.b in
+    let b = c.args.b in
     rw (ne_eqb b 88 (λ e. omega arith), ne_eqb b 120 (λ e. omega arith))
 
-pub is-yes-spec : {M : Type 1} → statement M
-is-yes-spec = tie.close (tie.spec returns returns-2 returns-3)
+pub is_yes_spec : {M : Type 1} → statement M
+is_yes_spec = tie.close (tie.spec returns returns-2 returns-3)

@@ -5,17 +5,17 @@ use borrow.Author.Rules.{rules}
 use Rattle.table_bytes.proofs.passes_as.Statement.{statement}
 use Rattle.table_bytes.proofs.passes_as.Tie as tie
 
-returns : tie.Need-returns
-returns c = rw c.before.enum_told.given.1 c.is_digit.ensures
+returns : tie.Need-returns-in-Digit
+returns c = rw c.in-Digit.is c.is_digit.ensures
 
-returns-2 : tie.Need-returns-2
-returns-2 c = rw c.before.enum-told2.given.1 c.is-mark.ensures
+returns-2 : tie.Need-returns-in-Mark
+returns-2 c = rw c.in-Mark.is c.is_mark.ensures
 
-returns-3 : tie.Need-returns-3
-returns-3 c = rw c.before.enum-told3.given.1 (ap not c.is-unknown.ensures)
+returns-3 : tie.Need-returns-in-Known
+returns-3 c = rw c.in-Known.is (ap not c.is_unknown.ensures)
 
-pub passes-as-spec : {M : Type 1} → statement M
-passes-as-spec =
+pub passes_as_spec : {M : Type 1} → statement M
+passes_as_spec =
     tie.close
     (tie.spec
     (λ c. search rules)

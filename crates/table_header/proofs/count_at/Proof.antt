@@ -6,38 +6,36 @@ use lib.ListN.{length, take, drop}
 use borrow.Author.Rules.{rules}
 use Rattle.table_lines.specs.declared.Line.{Line}
 use Rattle.table_lines.specs.Lines.{line_of}
-use Rattle.table_lines.specs.Lines.Laws.{bytes_inside}
+use Rattle.table_lines.proofs.Lines.Laws.{bytes_inside}
 use Rattle.table_counts.specs.Counts.{count_of}
 use Rattle.table_header.proofs.count_at.Statement.{statement}
 use Rattle.table_header.proofs.count_at.Tie as tie
 
 -- the line found is the file's
-size : (c : tie.After-line-at)
-    → let a = c.before.before.args in
-    c.line_at.result.size ≡ (line_of (drop a.at a.file.now)).size
-size c = ap (λ (l : Line). l.size) c.line_at.ensures
+size : (c : tie.After-line_at-line)
+    → let a = c.args in
+    c.line_at-line.result.size ≡ (line_of (drop a.at a.file.now)).size
+size c = ap (λ (l : Line). l.size) c.line_at-line.ensures
 
-inside : (c : tie.After-line-at) → let a = c.before.before.args in a.at + c.line_at.result.size ≤ length a.file.now
+inside : (c : tie.After-line_at-line) → let a = c.args in a.at + c.line_at-line.result.size ≤ length a.file.now
 inside c =
-    let s = c.before.before in
-    omega (arith, size c, bytes_inside s.args.file.now s.args.at s.requires)
+    omega (arith, size c, bytes_inside c.args.file.now c.args.at c.requires)
 
-add-end : tie.Need-overflow-add-end
+add-end : tie.Need-overflow_add-end
 add-end c = omega (arith, inside c.before)
 
-part-count-of-end : tie.Need-slice-bounds-count-of-end
+part-count-of-end : tie.Need-slice_bounds-count_of-end
 part-count-of-end c = inside c.before
 
 returns : tie.Need-returns
 returns c =
-    let d = c.before.before.before in
-    let a = d.before.before.args in
-    let s = d.line_at.result.size in
-    let e : a.at + s - a.at ≡ (line_of (drop a.at a.file.now)).size = omega (arith, size d) in
+    let a = c.args in
+    let s = c.line_at-line.result.size in
+    let e : a.at + s - a.at ≡ (line_of (drop a.at a.file.now)).size = omega (arith, size c.before.before.before) in
     c.count_of.ensures ∙ ap (λ k. count_of (take k (drop a.at a.file.now))) e
 
-pub count-at-spec : {M : Type 1} → statement M
-count-at-spec =
+pub count_at_spec : {M : Type 1} → statement M
+count_at_spec =
     tie.close
     (tie.spec
     (λ c κs. search rules)

@@ -6,8 +6,8 @@ use lib.ListN.{length, take, replicate, length-replicate}
 use lib.Dec.{lit≤}
 use Rattle.session.specs.Limits.{most_objects, most_implications}
 use Rattle.table_interview.specs.Places.{lent_of, places_for, ReadComplete}
-use Rattle.table_interview.specs.Places.Laws.{table-read, read-holds, words-taken, places-taken}
-use Rattle.table_interview.specs.Run.{output-written, table-written}
+use Rattle.table_interview.proofs.Places.Laws.{table-read, read-holds, words-taken, places-taken}
+use Rattle.table_interview.proofs.Run.{output-written, table-written}
 use borrow.Author.Rules.{rules}
 use Rattle.table_interview.proofs.hold.Statement.{statement}
 use Rattle.table_interview.proofs.hold.Tie as tie

@@ -8,9 +8,9 @@ use Rattle.session_opening.specs.Opening.{opening_of}
 use Rattle.session_opening.specs.declared.Opened.{Opened}
 use Rattle.text.specs.Page.{Page, page, text}
 use Rattle.transcript.specs.Output.{interviewed}
-use Rattle.transcript.specs.Core.Kept.{opened-along}
+use Rattle.transcript.proofs.Core.Kept.{opened-along}
 use Rattle.table_interview.specs.Places.{lent_of}
-use Rattle.table_interview.specs.Places.Laws.{opening-found}
+use Rattle.table_interview.proofs.Places.Laws.{opening-found}
 use borrow.Author.Rules.{rules}
 use Rattle.table_interview.proofs.interview_table.Statement.{statement}
 use Rattle.table_interview.proofs.interview_table.Tie as tie

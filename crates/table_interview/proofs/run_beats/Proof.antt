@@ -5,10 +5,10 @@ use Prim.Native.Nat.{ℕ, ◌+◌, ◌≤◌}
 use native.Mathlib.Omega.{arith}
 use lib.ListN.{length}
 use Rattle.context.specs.Objects.{Object, objects_of}
-use Rattle.transcript.specs.Output.Ends.{measure}
+use Rattle.transcript.proofs.Output.Ends.{measure}
 use Rattle.interview_replies.specs.Holding.{holding}
 use Rattle.handed_output.specs.Handing.{most_counted, Hands}
-use Rattle.handed_output.specs.Handing.Laws.{hands_none, hands_on}
+use Rattle.handed_output.proofs.Handing.Laws.{hands_none, hands_on}
 use Rattle.interview_beat.specs.Running.{remaining, Running, Turned, along-fits, running-start, turned}
 use borrow.Author.Rules.{rules}
 use Rattle.table_interview.proofs.run_beats.Statement.{statement}

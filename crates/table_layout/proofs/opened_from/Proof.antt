@@ -5,11 +5,15 @@ use Rattle.table_layout.specs.Layout.{opened_from}
 use Rattle.table_layout.proofs.opened_from.Statement.{statement}
 use Rattle.table_layout.proofs.opened_from.Tie as tie
 
-returns : tie.Need-returns
-returns c = sym (ap (opened_from c.before.before.args.layout) c.enum_told.given.1)
+returns : tie.Need-returns-in-At
+returns c = sym (ap (opened_from c.args.layout) c.in-At.is)
 
-returns-2 : tie.Need-returns-2
-returns-2 c = sym (ap (opened_from c.before.before.before.args.layout) c.before.walked.given.1)
+returns-2 : tie.Need-returns-in-Failed
+returns-2 c = sym (ap (opened_from c.args.layout) c.in-Failed.is)
 
-pub opened-from-spec : {M : Type 1} → statement M
-opened-from-spec = tie.close (tie.spec (λ c. search rules) (λ c. search rules) returns returns-2)
+pub opened_from_spec : {M : Type 1} → statement M
+opened_from_spec = tie.close (tie.spec
+    (λ c. search rules)
+    (λ c. search rules)
+    returns
+    returns-2)

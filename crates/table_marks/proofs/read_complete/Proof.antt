@@ -6,9 +6,9 @@ use Rattle.table_layout.specs.declared.Opened.{Opened}
 use Rattle.table_layout.specs.declared.Opened.TheVariants.{Refused}
 use Rattle.table_layout.specs.Layout.{opened_of}
 use Rattle.mark_reading.specs.Marks.{reading_from, words_of_rows}
-use Rattle.mark_reading.specs.Marks.Laws.{reading-bad, reading-fine}
+use Rattle.mark_reading.proofs.Marks.Laws.{reading-bad, reading-fine}
 use Rattle.complete_tables.specs.Complete.{complete_of}
-use Rattle.complete_tables.specs.Complete.Laws.{complete-layout}
+use Rattle.complete_tables.proofs.Complete.Laws.{complete-layout}
 use Rattle.table_marks.proofs.read_complete.Statement.{statement}
 use Rattle.table_marks.proofs.read_complete.Tie as tie
 

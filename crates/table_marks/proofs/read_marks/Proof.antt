@@ -6,7 +6,7 @@ use Rattle.table_layout.specs.declared.Opened.{Opened}
 use Rattle.table_layout.specs.declared.Opened.TheVariants.{Refused}
 use Rattle.table_layout.specs.Layout.{opened_of}
 use Rattle.mark_reading.specs.Marks.{reading_from, words_of_rows}
-use Rattle.mark_reading.specs.Marks.Laws.{reading-bad, reading-fine}
+use Rattle.mark_reading.proofs.Marks.Laws.{reading-bad, reading-fine}
 use Rattle.table_marks.proofs.read_marks.Statement.{statement}
 use Rattle.table_marks.proofs.read_marks.Tie as tie
 

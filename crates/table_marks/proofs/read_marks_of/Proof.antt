@@ -4,8 +4,8 @@ use borrow.Author.Rules.{rules}
 use lib.ListN.{length}
 use Rattle.table_layout.specs.declared.Opened.TheVariants.{Refused}
 use Rattle.table_layout.specs.Layout.{opened_of}
-use Rattle.mark_reading.specs.Marks.Laws.{reading-bad, reading-fine}
-use Rattle.found_layout.specs.Found.Laws.{as-layout}
+use Rattle.mark_reading.proofs.Marks.Laws.{reading-bad, reading-fine}
+use Rattle.found_layout.proofs.Found.Laws.{as-layout}
 use Rattle.mark_reading.specs.Marks.{reading_from}
 use Rattle.found_layout.specs.Found.{opened_as}
 use Rattle.table_marks.proofs.read_marks_of.Statement.{statement}

@@ -11,10 +11,10 @@ use Rattle.table_kinds.specs.declared.Kind.TheVariants.{Marks}
 use Rattle.table_layout.specs.declared.Opened.TheVariants.{Refused}
 use Rattle.line_walk.specs.Walk.{walk}
 use Rattle.table_walk.specs.Walk.{Passes}
-use Rattle.table_walk.specs.Walk.Passed.{passes-from}
-use Rattle.table_layout.specs.Layout.Passed.{table-marks, starts-inside}
+use Rattle.table_walk.proofs.Walk.Passed.{passes-from}
+use Rattle.table_layout.proofs.Layout.Passed.{table-marks, starts-inside}
 use Rattle.mark_reading.specs.Marks.{flat, reading_from}
-use Rattle.mark_reading.specs.Marks.Laws.{rows-from, reading-short, reading-whole}
+use Rattle.mark_reading.proofs.Marks.Laws.{rows-from, reading-short, reading-whole}
 use Rattle.table_marks.proofs.read_opened.Statement.{statement}
 use Rattle.table_marks.proofs.read_opened.Tie as tie
 

@@ -9,8 +9,8 @@ use Rattle.context.specs.Objects.{object}
 use Rattle.session.specs.Limits.{most_attributes}
 use Rattle.table_lines.specs.Lines.{bytes_at}
 use Rattle.table_rows.specs.Rows.{row_of}
-use Rattle.table_walk.specs.Walk.Passed.{NextLine}
-use Rattle.mark_reading.specs.Marks.Loop.{Reads, reads-start, next, reads_on, reads_end}
+use Rattle.table_walk.proofs.Walk.Passed.{NextLine}
+use Rattle.mark_reading.proofs.Marks.Loop.{Reads, reads-start, next, reads_on, reads_end}
 use Rattle.table_marks.proofs.read_rows.Statement.{statement}
 use Rattle.table_marks.proofs.read_rows.Tie as tie
 

@@ -2,7 +2,7 @@
 use mathlib.Core.Path.{ap, ◌∙◌}
 use borrow.Author.Rules.{rules}
 use Rattle.table_names.specs.Names.{bytes_of, name_refusal}
-use Rattle.table_names.specs.Names.Laws.{attribute-span-inside}
+use Rattle.table_names.proofs.Names.Laws.{attribute-span-inside}
 use Rattle.table_names.proofs.attribute_name.Statement.{statement}
 use Rattle.table_names.proofs.attribute_name.Tie as tie
 

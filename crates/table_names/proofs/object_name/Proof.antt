@@ -2,7 +2,7 @@
 use mathlib.Core.Path.{ap, ◌∙◌}
 use borrow.Author.Rules.{rules}
 use Rattle.table_names.specs.Names.{bytes_of, name_refusal}
-use Rattle.table_names.specs.Names.Laws.{object-span-inside}
+use Rattle.table_names.proofs.Names.Laws.{object-span-inside}
 use Rattle.table_names.proofs.object_name.Statement.{statement}
 use Rattle.table_names.proofs.object_name.Tie as tie
 

@@ -1,6 +1,6 @@
 -- The first row of the table that refutes decides, and its words are the table's.
-use Rattle.interview_replies.specs.Holding.Laws.{leaves-same}
-use Rattle.table_replies.specs.Reply.Laws.{reply-no, reply-yes}
+use Rattle.interview_replies.proofs.Holding.Laws.{leaves-same}
+use Rattle.table_replies.proofs.Reply.Laws.{reply-no, reply-yes}
 use borrow.Author.Rules.{rules}
 use Rattle.table_replies.proofs.reply.Statement.{statement}
 use Rattle.table_replies.proofs.reply.Tie as tie

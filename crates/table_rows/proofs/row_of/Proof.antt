@@ -8,23 +8,22 @@ use Rattle.table_rows.specs.Rows.{row_of}
 use Rattle.table_rows.proofs.row_of.Statement.{statement}
 use Rattle.table_rows.proofs.row_of.Tie as tie
 
-part-row-of-marks-end : tie.Need-slice-bounds-row-of-marks-end
+part-row-of-marks-end : tie.Need-slice_bounds-row_of_marks-end
 part-row-of-marks-end c = omega arith
 
-row-of-marks-requires : tie.Need-row-of-marks-requires
-row-of-marks-requires c κs = omega (arith, length-take-le most_attributes c.before.before.before.args.line.now (omega arith))
+row-of-marks-requires : tie.Need-row_of_marks-requires
+row-of-marks-requires c κs = omega (arith, length-take-le most_attributes c.args.line.now (omega arith))
 
-returns : tie.Need-returns
-returns c = c.row-of-marks.ensures
+returns : tie.Need-returns-then-line-gt-ATTRIBUTES
+returns c = c.row_of_marks.ensures
 
-returns-2 : tie.Need-returns-2
+returns-2 : tie.Need-returns
 returns-2 c =
-    let e = c.before in
-    let line = e.before.before.args.line.now in
-    c.row-of-marks2.ensures ∙ sym (ap row_of (take_all most_attributes line e.if1.false))
+    let line = c.args.line.now in
+    c.row_of_marks-2.ensures ∙ sym (ap row_of (take_all most_attributes line c.if-line-gt-ATTRIBUTES.false))
 
-pub row-of-spec : {M : Type 1} → statement M
-row-of-spec =
+pub row_of_spec : {M : Type 1} → statement M
+row_of_spec =
     tie.close
     (tie.spec
     (λ c. search rules)

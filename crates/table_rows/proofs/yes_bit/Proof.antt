@@ -4,11 +4,11 @@ use borrow.Author.Rules.{rules}
 use Rattle.table_rows.proofs.yes_bit.Statement.{statement}
 use Rattle.table_rows.proofs.yes_bit.Tie as tie
 
-returns : tie.Need-returns
-returns c = rw (sym c.before.is-yes.ensures ∙ c.if1.true)
+returns : tie.Need-returns-then-is_yes
+returns c = rw (sym c.is_yes.ensures ∙ c.if-is_yes.true)
 
-returns-2 : tie.Need-returns-2
-returns-2 c = rw (sym c.before.is-yes.ensures ∙ c.if1.false)
+returns-2 : tie.Need-returns
+returns-2 c = rw (sym c.is_yes.ensures ∙ c.if-is_yes.false)
 
-pub yes-bit-spec : {M : Type 1} → statement M
-yes-bit-spec = tie.close (tie.spec (λ c κs. search rules) returns returns-2)
+pub yes_bit_spec : {M : Type 1} → statement M
+yes_bit_spec = tie.close (tie.spec (λ c κs. search rules) returns returns-2)

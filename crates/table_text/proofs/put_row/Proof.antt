@@ -1,5 +1,5 @@
 -- The marks, then the line feed.
-use Rattle.text.specs.Page.Laws.{text-on}
+use Rattle.text.proofs.Page.Laws.{text-on}
 use borrow.Author.Rules.{rules}
 use Rattle.closed_lines.specs.Closed.{closed}
 use Rattle.table_text.proofs.put_row.Statement.{statement}
@@ -8,12 +8,10 @@ use Rattle.table_text.proofs.put_row.Tie as tie
 returns : tie.Need-returns
 unfolding closed
 returns c =
-    let second = c.before.before in
-    let first = second.before.before.before.before in
-    text-on _ _ _ first.put-marks.ensures second.put_byte.ensures
+    text-on _ _ _ c.put_marks-marked.ensures c.put_byte.ensures
 
-pub put-row-spec : {M : Type 1} → statement M
-put-row-spec =
+pub put_row_spec : {M : Type 1} → statement M
+put_row_spec =
     tie.close
     (tie.spec
     (λ c κs. search rules)

@@ -4,14 +4,13 @@ use mathlib.Core.List.{◌++◌}
 use Prim.Native.Nat.{ℕ, ◌+◌}
 use native.Mathlib.Omega.{arith}
 use borrow.Author.Rules.{rules}
-use Rattle.context.specs.Objects.{objects_of}
-use Rattle.context.specs.Objects.Laws.{whole}
+use Rattle.context.specs.Objects.{objects_of, whole}
 use Rattle.text.specs.Page.{page, text}
-use Rattle.text.specs.Page.Laws.{text-on, text-then}
+use Rattle.text.proofs.Page.Laws.{text-on, text-then}
 use Rattle.closed_lines.specs.Closed.{closed, first_lines}
 use Rattle.table_text.specs.Table.{header_lines, mark_lines}
-use Rattle.table_text.specs.Table.Laws.{text-parts}
-use Rattle.row_checks.specs.Rows.Laws.{rows_fit}
+use Rattle.table_text.proofs.Table.Laws.{text-parts}
+use Rattle.row_checks.proofs.Rows.Laws.{rows_fit}
 use Rattle.table_writer.proofs.put_table.Statement.{statement}
 use Rattle.table_writer.proofs.put_table.Tie as tie
 

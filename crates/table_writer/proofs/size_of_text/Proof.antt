@@ -4,11 +4,11 @@ use native.Mathlib.Omega.{arith}
 use native.Mathlib.Nat.{mul-le-mul}
 use borrow.Author.Rules.{rules}
 use Rattle.session.specs.Limits.{most_attributes, most_objects}
-use Rattle.text.specs.Text.Digits.Laws.{number_short}
+use Rattle.text.proofs.Text.Digits.Laws.{number_short}
 use Rattle.line_tests.specs.Tests.{most_name_bytes}
-use Rattle.table_text.specs.Table.Laws.{text-size}
-use Rattle.row_checks.specs.Rows.Laws.{Fits, rows_fit}
-use Rattle.table_writing.specs.Writing.Laws.{names-fit}
+use Rattle.table_text.proofs.Table.Laws.{text-size}
+use Rattle.row_checks.proofs.Rows.Laws.{Fits, rows_fit}
+use Rattle.table_writing.proofs.Writing.Laws.{names-fit}
 use Rattle.table_writer.proofs.size_of_text.Statement.{statement}
 use Rattle.table_writer.proofs.size_of_text.Tie as tie
 

@@ -5,10 +5,10 @@ use Prim.Native.Nat.{ℕ, ◌≤◌}
 use native.Mathlib.Omega.{arith}
 use lib.ListN.{length}
 use borrow.Author.Rules.{rules}
-use Rattle.text.specs.Page.Laws.{put_first}
+use Rattle.text.proofs.Page.Laws.{put_first}
 use Rattle.table_text.specs.Table.{text_of}
 use Rattle.table_writing.specs.declared.Written.TheVariants.{Bytes, Refused}
-use Rattle.table_writing.specs.Writing.Laws.{long-file, long-output, short-both, long-refused, all-written}
+use Rattle.table_writing.proofs.Writing.Laws.{long-file, long-output, short-both, long-refused, all-written}
 use Rattle.table_writer.proofs.write_named.Statement.{statement}
 use Rattle.table_writer.proofs.write_named.Tie as tie
 

@@ -4,8 +4,8 @@ use native.Mathlib.Omega.{arith}
 use lib.ListN.{length}
 use borrow.Author.Rules.{rules}
 use Rattle.table_writing.specs.Writing.{is_failed}
-use Rattle.row_checks.specs.Rows.Laws.{rows_fit}
-use Rattle.table_writing.specs.Writing.Laws.{name-refused}
+use Rattle.row_checks.proofs.Rows.Laws.{rows_fit}
+use Rattle.table_writing.proofs.Writing.Laws.{name-refused}
 use Rattle.table_writer.proofs.write_rows.Statement.{statement}
 use Rattle.table_writer.proofs.write_rows.Tie as tie
 

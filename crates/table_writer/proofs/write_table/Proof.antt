@@ -3,7 +3,7 @@ use mathlib.Core.Path.{refl, sym, ap, ◌∙◌}
 use lib.ListN.{length}
 use borrow.Author.Rules.{rules}
 use Rattle.size_checks.specs.Verdicts.{verdict_of}
-use Rattle.table_writing.specs.Writing.Laws.{rows-refused}
+use Rattle.table_writing.proofs.Writing.Laws.{rows-refused}
 use Rattle.table_writer.proofs.write_table.Statement.{statement}
 use Rattle.table_writer.proofs.write_table.Tie as tie
 

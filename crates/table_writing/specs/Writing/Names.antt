@@ -4,7 +4,6 @@ use Rattle.std.specs.Prelude.{◌≡◌, ◌⊎◌, List, [], ℕ, ◌≤◌, �
 use Rattle.table_lines.specs.Lines.{skipped}
 use Rattle.table_lines.specs.Pieces.{lines_of}
 use Rattle.line_tests.specs.Tests.{most_name_bytes}
-pub mod Laws
 
 -- the line with this number, counted from 0, is there and is a name
 abbrev pub GoodName : List ℕ → ℕ → Type 0

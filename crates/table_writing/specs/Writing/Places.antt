@@ -3,9 +3,8 @@
 use Rattle.std.specs.Prelude.{◌≡◌, ◌⊎◌, List, ℕ, ◌+◌, ◌≤◌, ◌<◌}
 use Rattle.session.specs.declared.Refusal.{Refusal}
 use Rattle.context.specs.Objects.{objects_of, marked_twice}
-use Rattle.demands.specs.Facts.Refused.{Lowest}
+use Rattle.demands.proofs.Facts.Refused.{Lowest}
 use Rattle.table_writing.specs.Writing.Names.{FirstBad}
-pub mod Laws
 
 pub record RightPlace (n used : ℕ) (words names : List ℕ) (r : Refusal) : Type 0 where
   pub number : ((0 < r.number) × (r.number ≤ 5)) ⊎ ((r.number ≡ 26) ⊎ (r.number ≡ 30))

@@ -10,8 +10,8 @@ member : (d : ℕ) → (d ≡ 0 → ⊥) → 88 ≡ mark_text d
 member zero h = absurd (h refl)
 member (suc d) h = refl
 
-returns-2 : tie.Need-returns-2
-returns-2 c = member c.before.args.digit (search rules)
+returns-2 : tie.Need-returns
+returns-2 c = member c.args.digit (search rules)
 
-pub mark-of-spec : {M : Type 1} → statement M
-mark-of-spec = tie.close (tie.spec (λ c. search rules) returns-2)
+pub mark_of_spec : {M : Type 1} → statement M
+mark_of_spec = tie.close (tie.spec (λ c. search rules) returns-2)

@@ -7,47 +7,38 @@ use native.Mathlib.Numerals.{add-one}
 use lib.ListN.{length, drop, get_or, drop_of_length-le}
 use lib.Seq.{drop-cons}
 use Rattle.text.specs.Page.{page, text}
-use Rattle.text.specs.Page.Laws.{text-step, text-end, same_size}
+use Rattle.text.proofs.Page.Laws.{text-step, text-end, same_size}
 use Rattle.text.proofs.put_bytes.Statement.{statement}
 use Rattle.text.proofs.put_bytes.Tie as tie
 
-abbrev invariant-loop : tie.invariant-loop
+abbrev invariant-loop : tie.invariant-loop-i
 invariant-loop out₀ at bytes to₀ i₀ out to i = text (page out to) (drop i bytes) ≡ text (page out₀ at) bytes
 
-abbrev decreases-loop : tie.decreases-loop
+abbrev decreases-loop : tie.decreases-loop-i
 decreases-loop out₀ at bytes to₀ i₀ out to i = length bytes - i
 
 -- the places: the start, before the loop; a turn of it, and the byte that the turn writes
-abbrev start : tie.At-loop invariant-loop decreases-loop → tie.Start invariant-loop decreases-loop
-start c = c.before.before.before
-
-abbrev put : tie.After-slice-known2 invariant-loop decreases-loop → tie.After-put-byte invariant-loop decreases-loop
-put c = c.before.before
-
-abbrev turn : tie.After-put-byte invariant-loop decreases-loop → tie.At-loop invariant-loop decreases-loop
-turn c = c.before.before.before.before
-
-loop-again : tie.Need-loop-preserved invariant-loop decreases-loop
+loop-again : tie.Need-loop-i-preserved invariant-loop decreases-loop
 loop-again c =
-    let l = (turn (put c)).loop in
-    let bytes = (start (turn (put c))).args.bytes.now in
+    let l = c.loop-i in
+    let bytes = c.args.bytes.now in
     let h : l.i < length bytes = search rules in
     let e : drop l.i bytes ≡ get_or bytes l.i 0 ∷ drop (l.i + 1) bytes = rw (add-one, drop-cons bytes l.i 0) in
-    text-step (page l.out l.to) (get_or bytes l.i 0) (drop (l.i + 1) bytes) (put c).put_byte.ensures
-    ∙ ap (text (page l.out l.to)) (sym e) ∙ l.inv
+    text-step (page l.out l.to) (get_or bytes l.i 0) (drop (l.i + 1) bytes) c.put_byte-to.ensures
+    ∙ ap (text (page l.out l.to)) (sym e) ∙ l.invariant
 
-same_length : tie.Need-same-length invariant-loop decreases-loop
-same_length c = same_size _ _ _ _ c.before.loop.invariant
+same_length : tie.Need-shape_of-out invariant-loop decreases-loop
+same_length c = same_size _ _ _ _ c.loop-i.invariant
 
 returns : tie.Need-returns invariant-loop decreases-loop
 returns c =
-    let l = c.before.loop in
-    let bytes = (start c.before).args.bytes.now in
+    let l = c.loop-i in
+    let bytes = c.args.bytes.now in
     let e : drop l.i bytes ≡ [] = drop_of_length-le bytes {i = l.i} (search rules) in
     text-end (page l.out l.to) _ e ∙ l.invariant
 
-pub put-bytes-spec : {M : Type 1} → statement M
-put-bytes-spec =
+pub put_bytes_spec : {M : Type 1} → statement M
+put_bytes_spec =
     tie.close
     (tie.spec
     invariant-loop

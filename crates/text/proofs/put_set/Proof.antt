@@ -7,7 +7,7 @@ use native.Mathlib.Omega.{arith}
 use native.Mathlib.Nat.{sub-zero}
 use Rattle.text.specs.Text.{mark_text, set_text}
 use Rattle.text.specs.Page.{page, text}
-use Rattle.text.specs.Page.Laws.{text-step, text-end, same_size}
+use Rattle.text.proofs.Page.Laws.{text-step, text-end, same_size}
 use Rattle.text.proofs.put_set.Statement.{statement}
 use Rattle.text.proofs.put_set.Tie as tie
 
@@ -25,46 +25,37 @@ marks-end n i w h =
     let e : n - i ≡ 0 = omega arith in
     rw e
 
-abbrev invariant-loop : tie.invariant-loop
+abbrev invariant-loop : tie.invariant-loop-i
 invariant-loop out₀ at n set to₀ left₀ i₀ out to left i = text (page out to) (set_text (n - i) left) ≡ text (page out₀ at) (set_text n set)
 
-abbrev decreases-loop : tie.decreases-loop
+abbrev decreases-loop : tie.decreases-loop-i
 decreases-loop out₀ at n set to₀ left₀ i₀ out to left i = n - i
 
 -- the places: the start, before the loop; a turn of it, and the byte that the turn writes
-abbrev start : tie.At-loop invariant-loop decreases-loop → tie.Start invariant-loop decreases-loop
-start c = c.before.before
-
-abbrev put : tie.After-slice-known2 invariant-loop decreases-loop → tie.After-put-byte invariant-loop decreases-loop
-put c = c.before.before
-
-abbrev turn : tie.After-put-byte invariant-loop decreases-loop → tie.At-loop invariant-loop decreases-loop
-turn c = c.before.before.before.before
-
-loop-holds : tie.Need-loop-init invariant-loop decreases-loop
+loop-holds : tie.Need-loop-i-init invariant-loop decreases-loop
 loop-holds c = rw sub-zero
 
-loop-again : tie.Need-loop-preserved invariant-loop decreases-loop
+loop-again : tie.Need-loop-i-preserved invariant-loop decreases-loop
 loop-again c =
-    let l = (turn (put c)).loop in
-    let a = (start (turn (put c))).args in
+    let l = c.loop-i in
+    let a = c.args in
     let p = page l.out l.to in
-    let m = (put c).before.mark_of.ensures in
+    let m = c.mark_of.ensures in
     text-step p (mark_text (l.left % 2)) (set_text (a.n - (l.i + 1)) (l.left / 2))
-    ((put c).put_byte.ensures ∙ ap (λ (b : ℕ). text p (b ∷ [])) m)
-    ∙ ap (text p) (sym (marks-at a.n l.i l.left (search rules))) ∙ l.inv
+    (c.put_byte-to.ensures ∙ ap (λ (b : ℕ). text p (b ∷ [])) m)
+    ∙ ap (text p) (sym (marks-at a.n l.i l.left (search rules))) ∙ l.invariant
 
-same_length : tie.Need-same-length invariant-loop decreases-loop
-same_length c = same_size _ _ _ _ c.before.loop.invariant
+same_length : tie.Need-shape_of-out invariant-loop decreases-loop
+same_length c = same_size _ _ _ _ c.loop-i.invariant
 
 returns : tie.Need-returns invariant-loop decreases-loop
 returns c =
-    let l = c.before.loop in
-    let n = (start c.before).args.n in
+    let l = c.loop-i in
+    let n = c.args.n in
     text-end (page l.out l.to) _ (marks-end n l.i l.left (search rules)) ∙ l.invariant
 
-pub put-set-spec : {M : Type 1} → statement M
-put-set-spec =
+pub put_set_spec : {M : Type 1} → statement M
+put_set_spec =
     tie.close
     (tie.spec
     invariant-loop

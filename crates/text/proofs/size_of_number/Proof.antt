@@ -24,25 +24,25 @@ next zero n h l = absurd (omega arith)
 next (suc j) n h l = (j, refl, omega arith)
 
 -- with those passed, the digits of what is left are all of them, and one more: its own first digit is counted already
-abbrev invariant-loop : tie.invariant-loop
+abbrev invariant-loop : tie.invariant-loop-left
 invariant-loop n left₀ size₀ left size =
     (1 ≤ size) × (k : ℕ) × (size + k ≡ 20) × (left < 10 ^ suc k) × (size + length (digits (suc k) left) ≡ length (number_text n) + 1)
 
-abbrev decreases-loop : tie.decreases-loop
+abbrev decreases-loop : tie.decreases-loop-left
 decreases-loop n left₀ size₀ left size = left
 
-loop-holds : tie.Need-loop-init invariant-loop decreases-loop
+loop-holds : tie.Need-loop-left-init invariant-loop decreases-loop
 loop-holds c = (omega arith, 19, refl, omega arith, omega arith)
 
-add-size : tie.Need-overflow-add-size invariant-loop decreases-loop
+add-size : tie.Need-overflow_add-size invariant-loop decreases-loop
 add-size c = omega arith
 
-loop-less : tie.Need-loop-smaller invariant-loop decreases-loop
+loop-less : tie.Need-loop-left-smaller invariant-loop decreases-loop
 loop-less c = omega arith
 
-loop-again : tie.Need-loop-preserved invariant-loop decreases-loop
+loop-again : tie.Need-loop-left-preserved invariant-loop decreases-loop
 loop-again c =
-    let l = c.before.loop in
+    let l = c.loop-left in
     let i = l.invariant in
     let t = next i.1 l.left i.3 (omega arith) in
     let e = ap (λ (m : ℕ). length (digits m (l.left / 10))) t.1 in
@@ -50,10 +50,17 @@ loop-again c =
 
 returns : tie.Need-returns invariant-loop decreases-loop
 returns c =
-    let l = c.before.loop in
+    let l = c.loop-left in
     let i = l.invariant in
     omega (arith, one i.1 l.left (omega arith))
 
-pub size-of-number-spec : {M : Type 1} → statement M
-size-of-number-spec =
-    tie.close (tie.spec invariant-loop decreases-loop loop-holds add-size loop-less loop-again returns)
+pub size_of_number_spec : {M : Type 1} → statement M
+size_of_number_spec =
+    tie.close (tie.spec
+    invariant-loop
+    decreases-loop
+    loop-holds
+    add-size
+    loop-less
+    loop-again
+    returns)

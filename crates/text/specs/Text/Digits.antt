@@ -1,7 +1,6 @@
 -- The digits of a number from the first to the last: a power of ten says where the first one stands, and each next power the next.
 use Rattle.std.specs.Prelude.{◌≡◌, List, [], ◌∷◌, ◌++◌, ℕ, zero, suc, ◌+◌, ◌/◌, ◌%◌, ◌^◌}
 use Rattle.text.specs.Text.{number_text}
-pub mod Laws
 
 -- the last k digits, leading zeros too
 unfoldable pub low : ℕ → ℕ → List ℕ

@@ -8,24 +8,24 @@ use Rattle.std.proofs.Math.Bool.{not}
 use mathlib.Core.List.{List, [], ◌++◌, Memᴰ, append-nil}
 use Rattle.std.proofs.Math.Option.{none}
 use Rattle.theory.specs.Lists.{All, Pairwise}
-use Rattle.theory.specs.Lists.Laws.{all_nil, all_append}
+use Rattle.theory.proofs.Lists.Laws.{all_nil, all_append}
 use Rattle.theory.specs.Implications.{Implication, Over}
 use Rattle.attribute_set.specs.Sets.{full, without}
-use Rattle.attribute_set.specs.Sets.Laws.{sub_refl, sub-inside, or_left, or_right}
-use Rattle.attribute_set.specs.Lectic.Rank.{rank}
-use Rattle.attribute_set.specs.Words.{words}
+use Rattle.attribute_set.proofs.Sets.Laws.{sub_refl, sub-inside, or_left, or_right}
+use Rattle.attribute_set.proofs.Lectic.Rank.{rank}
+use Rattle.attribute_set.proofs.Words.{words}
 use Rattle.implication.specs.Closure.{implication, closure}
-use Rattle.implication.specs.Closure.Laws.{closed-closure}
-use Rattle.context.specs.Places.Laws.{all-anywhere}
+use Rattle.implication.proofs.Closure.Laws.{closed-closure}
+use Rattle.context.proofs.Places.Laws.{all-anywhere}
 use Rattle.context.specs.Objects.{Object, refutes, refutes_written, contradicts}
-use Rattle.context.specs.Objects.Laws.{apart-marked}
+use Rattle.context.proofs.Objects.Laws.{apart-marked}
 use Rattle.context.specs.Tables.{Table, AgreesObject, AgreesImplication}
-use Rattle.context.specs.Tables.Laws.{no-contradiction}
+use Rattle.context.proofs.Tables.Laws.{no-contradiction}
 use Rattle.session.specs.Limits.{bad_length, most_attributes, most_objects, most_implications}
-use Rattle.written_marks.specs.Written.Laws.{Settled, refutes-written, reach-written}
+use Rattle.written_marks.proofs.Written.Laws.{Settled, refutes-written, reach-written}
 use Rattle.machine.specs.Checks.{State, force, reach_of, question, strange, strange_object, strange_implication, outside_m, first_failing, session_checks}
-use Rattle.machine.specs.Checks.Laws.{InM, Passed, none-failing, or-false}
-use Rattle.demands.specs.Demand3.Invariant.{Reached, current_in}
+use Rattle.machine.proofs.Checks.Laws.{InM, Passed, none-failing, or-false}
+use Rattle.demands.proofs.Demand3.Invariant.{Reached, current_in}
 use Rattle.written_machine.specs.Reading.{written_reach, written_question}
 
 -- two different rows

@@ -8,7 +8,6 @@ use Rattle.context.specs.Tables.{Complete}
 use Rattle.machine.specs.Checks.{State, force}
 use Rattle.machine.specs.Machine.{Call, step, accept, reject, follow, refute, test, file, fill, perform}
 use Rattle.written_machine.specs.Reading.{written_perform}
-pub mod Theorem
 
 -- the row that a call offers to the question, if any, is complete and does not contradict the implications in force; of a filed row and
 -- of a filling only written marks are read

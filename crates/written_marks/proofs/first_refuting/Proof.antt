@@ -4,41 +4,39 @@ use mathlib.Core.Bool.{Bool}
 use native.Mathlib.Omega.{arith}
 use Rattle.implication.specs.Closure.{implication}
 use Rattle.context.specs.Places.{lowest}
-use Rattle.context.specs.Objects.{Object, objects_of, refutes_written, first_written}
-use Rattle.context.specs.Objects.Laws.{whole, lowest-whole, lowest-none, past-written}
+use Rattle.context.specs.Objects.{Object, objects_of, refutes_written, first_written, whole}
+use Rattle.context.proofs.Objects.Laws.{lowest-whole, lowest-none, past-written}
 use borrow.Author.Rules.{rules}
 use Rattle.written_marks.proofs.first_refuting.Statement.{statement}
 use Rattle.written_marks.proofs.first_refuting.Tie as tie
 
-abbrev start : tie.After-smaller → tie.Start
-start c = c.before.before
-
-abbrev test : tie.After-smaller → Object → Bool
-test c o = let a = (start c).args in refutes_written o (implication a.premise a.conclusion)
+abbrev test : tie.After-smaller-whole → Object → Bool
+test c o = let a = c.args in refutes_written o (implication a.premise a.conclusion)
 
 -- what the call gives, for the number of whole objects
-found : (c : tie.After-refuting-among)
-    → let a = (start c.before).args in
-    c.refuting-among.result ≡ lowest (test c.before) (objects_of (whole a.count a.rows.now) a.rows.now)
+found : (c : tie.After-refuting_among-place)
+    → let a = c.args in
+    c.refuting_among-place.result ≡ lowest (test c.before) (objects_of (whole a.count a.rows.now) a.rows.now)
 unfolding first_written
 found c =
-    let d = c.before in
-    c.refuting-among.ensures ∙ ap (λ k. lowest (test d) (objects_of k (start d).args.rows.now)) d.smaller.ensures
+    c.refuting_among-place.ensures ∙ ap (λ k. lowest (test c.before) (objects_of k c.args.rows.now)) c.smaller-whole.ensures
 
-returns : tie.Need-returns
+returns : tie.Need-returns-then-place-whole
 unfolding first_written
 returns c =
-    let d = c.before.before in
-    let a = (start d).args in
-    found c.before ∙ sym (lowest-whole (test d) (past-written _) a.count a.rows.now (omega (arith, found c.before, d.smaller.ensures)))
+    let a = c.args in
+    found c.before ∙ sym (lowest-whole (test c.before.before) (past-written _) a.count a.rows.now (omega (arith, found c.before, c.smaller-whole.ensures)))
 
-returns-2 : tie.Need-returns-2
+returns-2 : tie.Need-returns-else-place-whole
 unfolding first_written
 returns-2 c =
-    let d = c.before.before in
-    let a = (start d).args in
-    sym (lowest-none (test d) (past-written _) a.count a.rows.now (omega (arith, found c.before, d.smaller.ensures)))
+    let a = c.args in
+    sym (lowest-none (test c.before.before) (past-written _) a.count a.rows.now (omega (arith, found c.before, c.smaller-whole.ensures)))
 
-pub first-refuting-spec : {M : Type 1} → statement M
-first-refuting-spec =
-    tie.close (tie.spec (λ c κs. search rules) (λ c κs. search rules) returns returns-2)
+pub first_refuting_spec : {M : Type 1} → statement M
+first_refuting_spec =
+    tie.close (tie.spec
+    (λ c κs. search rules)
+    (λ c κs. search rules)
+    returns
+    returns-2)

@@ -8,7 +8,7 @@ use native.Mathlib.Nat.{sub-zero}
 use lib.ListN.{drop}
 use Rattle.implication.specs.Closure.{implication}
 use Rattle.context.specs.Places.{lowest}
-use Rattle.context.specs.Places.Search.{pair_found, pair-passed, pair-none}
+use Rattle.context.proofs.Places.Search.{pair_found, pair-passed, pair-none}
 use Rattle.context.specs.Objects.{Object, object, objects_of, refutes_written, first_written}
 use Rattle.written_marks.proofs.refuting_among.Statement.{statement}
 use Rattle.written_marks.proofs.refuting_among.Tie as tie
@@ -17,50 +17,43 @@ use Rattle.written_marks.proofs.refuting_among.Tie as tie
 abbrev test : ℕ → ℕ → Object → Bool
 test premise conclusion o = refutes_written o (implication premise conclusion)
 
-abbrev invariant-loop : tie.invariant-loop
+abbrev invariant-loop : tie.invariant-loop-place
 invariant-loop rows count premise conclusion place₀ place =
     (place ≤ count)
     × (place + lowest (test premise conclusion) (objects_of (count - place) (drop (place * 2) rows)) ≡ lowest (test premise conclusion) (objects_of count rows))
 
-abbrev decreases-loop : tie.decreases-loop
+abbrev decreases-loop : tie.decreases-loop-place
 decreases-loop rows count premise conclusion place₀ place = count - place
 
--- the loop and the arguments, seen from behind the test of an object
-abbrev at : tie.After-refuted-by invariant-loop decreases-loop → tie.At-loop invariant-loop decreases-loop
-at c = c.before.before.before.before
-
-abbrev start : tie.At-loop invariant-loop decreases-loop → tie.Start invariant-loop decreases-loop
-start c = c.before.before
-
-loop-holds : tie.Need-loop-init invariant-loop decreases-loop
+loop-holds : tie.Need-loop-place-init invariant-loop decreases-loop
 loop-holds c = (omega arith, rw sub-zero (omega arith))
 
-returns : tie.Need-returns invariant-loop decreases-loop
+returns : tie.Need-returns-then-refuted_by invariant-loop decreases-loop
 unfolding first_written
 returns c =
-    let l = (at c.before).loop in
-    let a = (start (at c.before)).args in
+    let l = c.loop-place in
+    let a = c.args in
     let h : l.place < a.count = omega arith in
-    omega (arith, l.inv.1, pair_found (test a.premise a.conclusion) object a.rows.now a.count l.place h (sym c.before.refuted-by.ensures ∙ c.if1.true))
+    omega (arith, l.invariant.1, pair_found (test a.premise a.conclusion) object a.rows.now a.count l.place h (sym c.refuted_by.ensures ∙ c.if-refuted_by.true))
 
-loop-again : tie.Need-loop-preserved invariant-loop decreases-loop
+loop-again : tie.Need-loop-place-preserved invariant-loop decreases-loop
 loop-again c =
-    let l = (at c.before).loop in
-    let a = (start (at c.before)).args in
+    let l = c.loop-place in
+    let a = c.args in
     let h : l.place < a.count = omega arith in (
       omega arith,
-      omega (arith, l.inv.1, pair-passed (test a.premise a.conclusion) object a.rows.now a.count l.place h (sym c.before.refuted-by.ensures ∙ c.if1.false)),
+      omega (arith, l.invariant.1, pair-passed (test a.premise a.conclusion) object a.rows.now a.count l.place h (sym c.refuted_by.ensures ∙ c.if-refuted_by.false)),
     )
 
-returns-2 : tie.Need-returns-2 invariant-loop decreases-loop
+returns-2 : tie.Need-returns invariant-loop decreases-loop
 unfolding first_written
 returns-2 c =
-    let l = c.before.loop in
-    let a = (start c.before).args in
+    let l = c.loop-place in
+    let a = c.args in
     omega (arith, l.invariant.1, pair-none (test a.premise a.conclusion) object a.rows.now a.count l.place (omega arith))
 
-pub refuting-among-spec : {M : Type 1} → statement M
-refuting-among-spec =
+pub refuting_among_spec : {M : Type 1} → statement M
+refuting_among_spec =
     tie.close
     (tie.spec
     invariant-loop

@@ -5,51 +5,44 @@ use borrow.Author.Rules.{rules}
 use native.Mathlib.Omega.{arith}
 use native.Mathlib.Nat.{sub-zero}
 use lib.ListN.{drop}
-use Rattle.implication.specs.Pairs.Laws.{pairs-at, pairs_end}
+use Rattle.implication.proofs.Pairs.Laws.{pairs-at, pairs_end}
 use Rattle.context.specs.Objects.{object, objects_of}
 use Rattle.written_marks.specs.Written.{narrow_written}
 use Rattle.written_reach.proofs.narrow_by.Statement.{statement}
 use Rattle.written_reach.proofs.narrow_by.Tie as tie
 
-abbrev invariant-loop : tie.invariant-loop
+abbrev invariant-loop : tie.invariant-loop-i
 invariant-loop rows count set x left₀ i₀ left i =
     (i ≤ count)
     × (narrow_written set (objects_of (count - i) (drop (i * 2) rows)) left ≡ narrow_written set (objects_of count rows) x)
 
-abbrev decreases-loop : tie.decreases-loop
+abbrev decreases-loop : tie.decreases-loop-i
 decreases-loop rows count set x left₀ i₀ left i = count - i
 
--- the loop and the arguments, seen from behind the cut by an object
-abbrev at : tie.After-cut-by invariant-loop decreases-loop → tie.At-loop invariant-loop decreases-loop
-at c = c.before.before.before.before
-
-abbrev start : tie.At-loop invariant-loop decreases-loop → tie.Start invariant-loop decreases-loop
-start c = c.before.before
-
-loop-holds : tie.Need-loop-init invariant-loop decreases-loop
+loop-holds : tie.Need-loop-i-init invariant-loop decreases-loop
 loop-holds c = (omega arith, rw sub-zero)
 
-loop-again : tie.Need-loop-preserved invariant-loop decreases-loop
+loop-again : tie.Need-loop-i-preserved invariant-loop decreases-loop
 unfolding narrow_written
 loop-again c =
-    let l = (at c).loop in
-    let a = (start (at c)).args in
+    let l = c.loop-i in
+    let a = c.args in
     let h : l.i < a.count = omega arith in (
       omega arith,
-      ap (narrow_written a.set (objects_of (a.count - (l.i + 1)) (drop ((l.i + 1) * 2) a.rows.now))) c.cut_by.ensures
-          ∙ ap (λ os. narrow_written a.set os l.left) (sym (pairs-at object a.rows.now a.count l.i h)) ∙ l.inv.1,
+      ap (narrow_written a.set (objects_of (a.count - (l.i + 1)) (drop ((l.i + 1) * 2) a.rows.now))) c.cut_by-left.ensures
+          ∙ ap (λ os. narrow_written a.set os l.left) (sym (pairs-at object a.rows.now a.count l.i h)) ∙ l.invariant.1,
     )
 
 returns : tie.Need-returns invariant-loop decreases-loop
 unfolding narrow_written
 returns c =
-    let l = c.before.loop in
-    let a = (start c.before).args in
+    let l = c.loop-i in
+    let a = c.args in
     ap (λ os. narrow_written a.set os l.left) (sym (pairs_end object (drop (l.i * 2) a.rows.now) a.count l.i (omega arith)))
     ∙ l.invariant.1
 
-pub narrow-by-spec : {M : Type 1} → statement M
-narrow-by-spec =
+pub narrow_by_spec : {M : Type 1} → statement M
+narrow_by_spec =
     tie.close
     (tie.spec
     invariant-loop

@@ -5,7 +5,6 @@ use Rattle.std.specs.Prelude.{◌≡◌, List, ℕ}
 use Rattle.machine.specs.Checks.{Lent}
 use Rattle.transcript.specs.Output.{output_with, output}
 use Rattle.written_transcript.specs.Output.{written_output_with, written_output}
-pub mod Theorem
 
 pub record Unchanged : Type 0 where
   pub with_places : (lent : Lent) (file : List ℕ) → output_with lent file ≡ written_output_with lent file

@@ -1,7 +1,7 @@
 -- The record is read, the coded call is made, and record and answer are stored, the record where it changed.
 use contract.Running.{tables_of}
 use Rattle.walks.specs.Instance.{id⊢, fact_mono, tables, triple_of, entered, cited}
-use Rattle.machine.specs.Calls.Laws.{chosen-made}
+use Rattle.machine.proofs.Calls.Laws.{chosen-made}
 use Rattle.coded_calls.specs.contracts.file_row as core
 use Rattle.coded_calls.proofs.file_row.Symbol as core-def
 use Rattle.coded_calls.proofs.file_row.Met as core-thm

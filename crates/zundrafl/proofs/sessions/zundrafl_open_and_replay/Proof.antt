@@ -2,7 +2,7 @@
 use contract.Running.{tables_of}
 use Rattle.walks.specs.Instance.{id⊢, fact_mono, tables, triple_of, entered, cited}
 use Rattle.call_logs.specs.Replay.{log_words}
-use Rattle.saved_interview.specs.TakingUp.Theorem.{outcome-kept}
+use Rattle.saved_interview.proofs.TakingUp.Theorem.{outcome-kept}
 use Rattle.saved_interview.specs.contracts.open_and_replay as core
 use Rattle.saved_interview.proofs.open_and_replay.Symbol as core-def
 use Rattle.saved_interview.proofs.open_and_replay.Met as core-thm

@@ -1,7 +1,7 @@
 -- The record is read, the coded call is made, and record and answer are stored, the record where it changed.
 use contract.Running.{tables_of}
 use Rattle.walks.specs.Instance.{id⊢, fact_mono, tables, triple_of, entered, cited}
-use Rattle.coded_opening.specs.Openings.Laws.{opens_kept}
+use Rattle.coded_opening.proofs.Openings.Laws.{opens_kept}
 use Rattle.coded_opening.specs.contracts.«open» as core
 use Rattle.coded_opening.proofs.«open».Symbol as core-def
 use Rattle.coded_opening.proofs.«open».Met as core-thm

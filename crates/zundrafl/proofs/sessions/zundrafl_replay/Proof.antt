@@ -2,7 +2,7 @@
 use contract.Running.{tables_of}
 use Rattle.walks.specs.Instance.{id⊢, fact_mono, tables, triple_of, entered, cited}
 use Rattle.call_logs.specs.Replay.{log_words}
-use Rattle.call_logs.specs.Replay.Laws.{replayed-kept}
+use Rattle.call_logs.proofs.Replay.Laws.{replayed-kept}
 use Rattle.coded_logs.specs.contracts.replay_coded as core
 use Rattle.coded_logs.proofs.replay_coded.Symbol as core-def
 use Rattle.coded_logs.proofs.replay_coded.Met as core-thm

@@ -1,7 +1,7 @@
 -- The layout is read, the coded call is made, and layout and answer are stored, the layout where it changed.
 use contract.Running.{tables_of}
 use Rattle.walks.specs.Instance.{id⊢, fact_mono, tables, triple_of, entered, cited}
-use Rattle.coded_tables.specs.Tables.Laws.{table_kept}
+use Rattle.coded_tables.proofs.Tables.Laws.{table_kept}
 use Rattle.coded_tables.specs.contracts.open_complete as core
 use Rattle.coded_tables.proofs.open_complete.Symbol as core-def
 use Rattle.coded_tables.proofs.open_complete.Met as core-thm

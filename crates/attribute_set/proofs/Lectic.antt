@@ -1,0 +1,3 @@
+pub mod Cases
+pub mod Laws
+pub mod Rank

@@ -1,0 +1,3 @@
+pub mod Closure
+pub mod Pairs
+pub mod Until

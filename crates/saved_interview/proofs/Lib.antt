@@ -1,0 +1,4 @@
+pub mod Demand3Whole
+pub mod ShownResultsWhole
+pub mod TakingUp
+pub mod Trace

@@ -1,0 +1,4 @@
+pub mod Canonical
+pub mod Exploration
+pub mod Implications
+pub mod Lists

@@ -1,0 +1,4 @@
+pub mod Opened
+pub mod ReadBack
+pub mod Settled
+pub mod Tables
