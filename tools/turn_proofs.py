@@ -23,7 +23,7 @@ TOKEN = re.compile(r"--[^\n]*|\.(?=[^\s.])" + WORD + r"|\"[^\"]*\"|" + WORD + r"
 
 
 def alike(name):
-    return re.sub("[-_]", "", name).lower()
+    return re.sub("[-_«»]", "", name).lower()
 
 
 def arguments(text):
@@ -110,7 +110,7 @@ class Turner:
         self.names = names
         self.places = Places(names)
         self.notes = []
-        self.text = open(path, encoding="utf-8").read()
+        self.text = re.sub(r"(?m)^(?!use ).*$", lambda m: re.sub(r"(?<=\.)«(\w+)»", r"\1", m.group(0)), open(path, encoding="utf-8").read())
 
     def goals(self):
         at = self.text.find("(tie.spec")
@@ -425,6 +425,8 @@ class Turner:
             fields.pop(0)
         if not fields:
             return self.way(var, at), i
+        if fields[0] == "fits":
+            fields[0] = "ranges"
         first, rest = fields[0], fields[1:]
         found = self.places.field(at, first, rest)
         if found:

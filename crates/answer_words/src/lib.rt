@@ -1,5 +1,6 @@
 // Answers in three words, a code and two values.
 #![tactic(auto)]
+
 ghost use Rattle.std.specs.Prelude.{◌≡◌};
 ghost use Rattle.machine.specs.Machine.{refused};
 ghost use Rattle.answer_words.specs.Codes.{coded, code_of};

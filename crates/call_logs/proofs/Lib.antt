@@ -1,1 +1,1 @@
-pub mod Replay
+pub mod OfReplay

@@ -1,5 +1,6 @@
 // Logs of calls: each call made through the call of its kind, its answer in three words written down.
 #![tactic(auto)]
+
 ghost use Rattle.context.specs.Parts.{mutable, shared};
 ghost use Rattle.std.specs.Prelude.{◌≡◌, ◌+◌, ◌*◌, ◌≤◌, length};
 ghost use Rattle.call_logs.specs.Replay.{stored, Replays};

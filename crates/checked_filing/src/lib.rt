@@ -1,5 +1,6 @@
 // The filing of an offered row behind checks 1 to 7, by value: its own checks, the row written, the record given back.
 #![tactic(auto)]
+
 ghost use Rattle.context.specs.Parts.{mutable, shared};
 ghost use Rattle.context.specs.Objects.{object};
 ghost use Rattle.checked_filing.specs.Checked.{FilesChecked};

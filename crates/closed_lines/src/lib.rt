@@ -1,5 +1,6 @@
 // Lines as text, each closed by a line feed, written into a lent buffer from an offset on; the answer is the offset behind them.
 #![tactic(auto)]
+
 ghost use Rattle.std.specs.Prelude.{◌≡◌, [], ◌∷◌};
 ghost use Rattle.text.specs.Page.{Puts};
 ghost use Rattle.closed_lines.specs.Closed.{closed, bytes_in, first_lines};

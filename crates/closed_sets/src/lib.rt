@@ -1,5 +1,6 @@
 // The next closed set.
 #![tactic(auto)]
+
 ghost use Rattle.std.specs.Prelude.{◌≡◌, min};
 ghost use Rattle.implication.specs.Closure.{in_force};
 ghost use Rattle.next_set.specs.Next.{next};

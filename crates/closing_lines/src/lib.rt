@@ -1,6 +1,7 @@
 // The line that closes the program's output, END with its totals or E with a refusal, written into a lent buffer from an offset on; the
 // answer is the offset behind it.
 #![tactic(auto)]
+
 ghost use Rattle.std.specs.Prelude.{[], ◌∷◌, ◌++◌};
 ghost use Rattle.session.specs.Refusals.{refusal};
 ghost use Rattle.text.specs.Page.{Puts};

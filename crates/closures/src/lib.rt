@@ -1,5 +1,6 @@
 // The closure of a set under the implications in force.
 #![tactic(auto)]
+
 ghost use Rattle.std.specs.Prelude.{◌≡◌, ◌*◌, ◌≤◌, min, length};
 ghost use Rattle.implication.specs.Closure.{implications_of, in_force, closure};
 ghost use Rattle.implication.specs.Until.{PassUntil, CloseUntil};

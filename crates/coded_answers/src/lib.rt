@@ -1,5 +1,6 @@
 // The answers of a session's calls in three words.
 #![tactic(auto)]
+
 ghost use Rattle.std.specs.Prelude.{◌≡◌};
 ghost use Rattle.session_steps.specs.Answers.{step_answer};
 ghost use Rattle.session_queries.specs.Answers.{following_answer, refuting_answer};

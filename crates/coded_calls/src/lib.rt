@@ -1,5 +1,6 @@
 // The step, the replies, the filing and the filling, with answers in three words, a code and two values.
 #![tactic(auto)]
+
 ghost use Rattle.context.specs.Parts.{mutable, shared};
 ghost use Rattle.context.specs.Objects.{object};
 ghost use Rattle.machine.specs.Machine.{step as stepping, accept as accepting, reject as rejecting, file, fill};

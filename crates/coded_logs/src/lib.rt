@@ -1,5 +1,6 @@
 // The replay of a log of calls, with its answer in three words.
 #![tactic(auto)]
+
 ghost use Rattle.context.specs.Parts.{mutable, shared};
 ghost use Rattle.std.specs.Prelude.{◌≡◌};
 ghost use Rattle.call_logs.specs.Replay.{code_of_log, ReplaysCoded};

@@ -1,5 +1,6 @@
 // Where a name stands in a table file, with the answer in three words.
 #![tactic(auto)]
+
 ghost use Rattle.std.specs.Prelude.{◌≡◌};
 ghost use Rattle.name_spans.specs.Spans.{object_span, attribute_span};
 ghost use Rattle.coded_tables.specs.Tables.{code_of_span};

@@ -1,5 +1,6 @@
 // Listing what nearly always comes with a premise, with its answer in three words.
 #![tactic(auto)]
+
 ghost use Rattle.context.specs.Parts.{shared};
 ghost use Rattle.std.specs.Prelude.{◌≡◌};
 ghost use Rattle.coded_nearly.specs.Listing.{code_of_nearly, ListsCoded};

@@ -1,6 +1,7 @@
 // The opening of a session with its answer in three words, a code and two values, and what every call that may change the record
 // gives back.
 #![tactic(auto)]
+
 ghost use Rattle.context.specs.Parts.{shared};
 ghost use Rattle.coded_opening.specs.Openings.{OpensCoded};
 

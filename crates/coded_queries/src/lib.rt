@@ -1,5 +1,6 @@
 // The calls of a session that change nothing, with answers in three words, a code and two values.
 #![tactic(auto)]
+
 ghost use Rattle.context.specs.Parts.{shared};
 ghost use Rattle.implication.specs.Closure.{implication};
 ghost use Rattle.context.specs.Objects.{object};

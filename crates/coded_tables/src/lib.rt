@@ -1,5 +1,6 @@
 // The table reader with its answers in three words: the layout that the caller keeps goes in, and comes back where it may have changed.
 #![tactic(auto)]
+
 ghost use Rattle.table_layout.specs.Layout.{opened_of};
 ghost use Rattle.complete_tables.specs.Complete.{opened_complete};
 ghost use Rattle.coded_tables.specs.Tables.{FindsTable, ReadsMarks};

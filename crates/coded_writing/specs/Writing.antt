@@ -1,7 +1,7 @@
 -- The writer's answers in three words, a code and two values (02, request 2/13): the number of bytes is answered as an accepted reply is;
 -- a refusal has its own number and its place.
 use Rattle.std.specs.Prelude.{◌≡◌, ℕ}
-use Rattle.text.specs.Page.{Buffer, Bytes}
+use Rattle.text.specs.Page.{Buffer, Bytes as LentBytes}
 use Rattle.machine.specs.Calls.{Words}
 use Rattle.answer_words.specs.declared.Answer.{Answer as Coded}
 use Rattle.answer_words.specs.Codes.{coded}
@@ -14,5 +14,5 @@ code_of_written (Bytes size) = coded 103 size 0
 code_of_written (Refused r) = coded r.number r.place 0
 
 -- the words say what writing answers, over the lent slices: row words, names, output
-abbrev pub WritesCoded : ℕ → ℕ → Words → Bytes → Buffer → Coded → Type 0
+abbrev pub WritesCoded : ℕ → ℕ → Words → LentBytes → Buffer → Coded → Type 0
 WritesCoded n used rows names out x = (w : Written) × (x ≡ code_of_written w) × Writes n used rows names out w

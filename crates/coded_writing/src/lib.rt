@@ -1,5 +1,6 @@
 // The writer of table files with its answer in three words.
 #![tactic(auto)]
+
 ghost use Rattle.context.specs.Parts.{shared};
 ghost use Rattle.std.specs.Prelude.{◌≡◌};
 ghost use Rattle.coded_writing.specs.Writing.{code_of_written, WritesCoded};

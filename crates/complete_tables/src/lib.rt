@@ -1,5 +1,6 @@
 // Whether a table file is complete: no mark is unknown.
 #![tactic(auto)]
+
 ghost use Rattle.std.specs.Prelude.{◌≡◌};
 ghost use Rattle.table_layout.specs.declared.Opened.TheVariants.{Found};
 ghost use Rattle.table_layout.specs.Layout.{opened_of};

@@ -1,5 +1,6 @@
 // The first row that contradicts the implications in force with one more.
 #![tactic(auto)]
+
 ghost use Rattle.context.specs.Parts.{shared};
 ghost use Rattle.std.specs.Prelude.{◌≡◌, ◌*◌, ◌≤◌, length};
 ghost use Rattle.context.specs.Places.{lowest};

@@ -1,6 +1,7 @@
 // What was expected where a table file was refused, in words: how many marks a line has, for 27; the phrase of the refusal's number;
 // for 22 the mistake that the file looks like.
 #![tactic(auto)]
+
 ghost use Rattle.std.specs.Prelude.{◌≡◌, ◌-◌};
 ghost use Rattle.text.specs.Page.{Puts};
 ghost use Rattle.expected_phrases.specs.Expected.{phrase, marks_text, mistake_text, expected_text};

@@ -1,5 +1,6 @@
 // The interview of the complete table on standard input (01: the program). Beside it, on standard error: why a file is refused.
 #![tactic(auto)]
+
 use libc::{STDERR_FILENO, STDIN_FILENO};
 use standard_streams::REPORT_BYTES;
 use table_interview::OUTPUT_BYTES;

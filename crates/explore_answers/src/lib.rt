@@ -1,5 +1,6 @@
 // What the program explore answers to the bytes that it has read (01: the program): its output, and beside it why a file is refused.
 #![tactic(auto)]
+
 ghost use Rattle.std.specs.Prelude.{◌≡◌, ◌&&◌, ◌-◌, take, get_or, eqb, leb};
 ghost use Rattle.text.specs.Page.{Puts};
 ghost use Rattle.refusal_reports.specs.Reports.{explanation};

@@ -1,5 +1,6 @@
 // Which mistake a table file looks like whose first line is not `B` alone, and what the mistake is, in words.
 #![tactic(auto)]
+
 ghost use Rattle.std.specs.Prelude.{◌≡◌, get_or};
 ghost use Rattle.text.specs.Page.{Puts};
 ghost use Rattle.file_mistakes.specs.Mistakes.{are, is_order_mark, is_wide, is_small, mistake_of, looks_like, mistake_phrase};

@@ -1,5 +1,6 @@
 // Whether an implication follows from those in force, and the closure under those in force and one more.
 #![tactic(auto)]
+
 ghost use Rattle.std.specs.Prelude.{◌≡◌};
 ghost use Rattle.implication.specs.Closure.{implication, in_force, in_force_with, closure, follows};
 

@@ -1,5 +1,6 @@
 // A layout that is said to be a file's: whether reading the file finds it.
 #![tactic(auto)]
+
 ghost use Rattle.std.specs.Prelude.{◌≡◌};
 ghost use Rattle.table_layout.specs.declared.Opened.TheVariants.{Found};
 ghost use Rattle.table_layout.specs.Layout.{opened_of};

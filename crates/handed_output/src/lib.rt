@@ -1,6 +1,7 @@
 // The output handed over to be written, part by part as it becomes known. How many bytes went is counted, so that none goes twice and
 // none is left out.
 #![tactic(auto)]
+
 ghost use Rattle.std.specs.Prelude.{length};
 ghost use Rattle.closing_lines.specs.Closing.{refusal_line};
 ghost use Rattle.handed_output.specs.Handing.{HandsOver, Tells};

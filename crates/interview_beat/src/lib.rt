@@ -1,5 +1,6 @@
 // One beat of an interview over a complete table (01: the program), below the checks: a step, and the table's reply where it asks.
 #![tactic(auto)]
+
 ghost use Rattle.context.specs.Parts.{mutable, shared};
 ghost use Rattle.interview_beat.specs.Beat.{WritesEnd, Advances};
 

@@ -1,5 +1,6 @@
 // No to the question of an interview (01: the program), below the checks: the Q line, and the row in its place.
 #![tactic(auto)]
+
 ghost use Rattle.context.specs.Parts.{mutable, shared};
 ghost use Rattle.context.specs.Objects.{object};
 ghost use Rattle.interview_replies.specs.Holding.{Beats, no_beat};

@@ -1,5 +1,6 @@
 // Where an interview of a table is (01: the program), and what one beat of it leaves.
 #![tactic(auto)]
+
 ghost use Rattle.std.specs.Prelude.{◌≡◌};
 ghost use Rattle.transcript.specs.Core.{counted};
 

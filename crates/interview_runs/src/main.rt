@@ -1,6 +1,7 @@
 // Holds the interview of every table file that its arguments name, and writes its name and the output: once with the program's
 // places, all of a session, and once with 2 for rows and 1 for rules.
 #![tactic(auto)]
+
 use libc::STDOUT_FILENO;
 use session::Session;
 use table_interview::OUTPUT_BYTES;

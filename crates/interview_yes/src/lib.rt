@@ -1,5 +1,6 @@
 // Yes to the question of an interview (01: the program), below the checks: the Q line, and the rule in its place.
 #![tactic(auto)]
+
 ghost use Rattle.context.specs.Parts.{mutable, shared};
 ghost use Rattle.std.specs.Prelude.{◌≤◌};
 ghost use Rattle.session.specs.Limits.{most_attributes};

@@ -1,6 +1,7 @@
 // The calls of a session over a record that is lent: each reads the record, makes the call by value, and stores the record where it
 // changed. A call that only reads takes it by `&`.
 #![tactic(auto)]
+
 ghost use Rattle.context.specs.Parts.{mutable, shared};
 ghost use Rattle.implication.specs.Closure.{implication};
 ghost use Rattle.context.specs.Objects.{object};

@@ -1,5 +1,6 @@
 // A test of all the bytes of a line of a table file.
 #![tactic(auto)]
+
 ghost use Rattle.std.specs.Prelude.{◌≡◌};
 ghost use Rattle.table_bytes.specs.Bytes.{passes};
 ghost use Rattle.line_bytes.specs.Everywhere.{everywhere};

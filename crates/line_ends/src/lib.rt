@@ -1,5 +1,6 @@
 // Where the line ends that begins at an offset of a file, and where the next one begins.
 #![tactic(auto)]
+
 ghost use Rattle.std.specs.Prelude.{◌≡◌, ◌<◌, length, drop};
 ghost use Rattle.table_lines.specs.Lines.{returned, end_of, line_of, after};
 

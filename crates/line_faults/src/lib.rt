@@ -1,5 +1,6 @@
 // The number with which a line of a table file is refused as one of its kind. An object is 01's row, an attribute its property.
 #![tactic(auto)]
+
 ghost use Rattle.std.specs.Prelude.{◌≡◌};
 ghost use Rattle.line_faults.specs.Faults.{fault};
 

@@ -1,5 +1,6 @@
 // The number of the line of a file that an offset lies in.
 #![tactic(auto)]
+
 ghost use Rattle.std.specs.Prelude.{◌≡◌};
 ghost use Rattle.line_numbers.specs.Numbers.{number_of_line};
 

@@ -1,5 +1,6 @@
 // The tests of one line of a table file: the letter, a count, a name, marks, and the number of a line that does not pass.
 #![tactic(auto)]
+
 ghost use Rattle.std.specs.Prelude.{◌≡◌};
 ghost use Rattle.line_tests.specs.Tests.{refuse_unless, count_fault, is_letter, is_name, is_marks};
 

@@ -1,5 +1,6 @@
 // One line of a table file: the refusal, or where the next line begins.
 #![tactic(auto)]
+
 ghost use Rattle.std.specs.Prelude.{◌≡◌, [], ◌∷◌};
 ghost use Rattle.line_walk.specs.Walk.{walk};
 

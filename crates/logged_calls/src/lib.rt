@@ -1,5 +1,6 @@
 // One call of a log, by its kind and three arguments, with its answer in three words.
 #![tactic(auto)]
+
 ghost use Rattle.context.specs.Parts.{mutable, shared};
 ghost use Rattle.logged_calls.specs.Kinds.{call_of, ReplaysOne};
 

@@ -1,5 +1,6 @@
 // Checks 5 and 6 of document 01: rows in use that mark an attribute both ways, or that contradict the rules in force.
 #![tactic(auto)]
+
 ghost use Rattle.context.specs.Parts.{shared};
 ghost use Rattle.std.specs.Prelude.{◌≡◌, ◌+◌, ◌-◌, ◌*◌, ◌≤◌, length, drop};
 ghost use Rattle.context.specs.Places.{lowest};

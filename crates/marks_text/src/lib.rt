@@ -1,6 +1,7 @@
 // A line of marks as text, written into a lent buffer from an offset on; the answer is the offset behind it. An attribute is 01's
 // property.
 #![tactic(auto)]
+
 ghost use Rattle.std.specs.Prelude.{◌≡◌};
 ghost use Rattle.text.specs.Page.{Puts};
 ghost use Rattle.marks_text.specs.Marks.{mark_of, marks_text};

@@ -1,5 +1,6 @@
 // Where the names of a table file stand in it, by number. An object is 01's row, an attribute its property.
 #![tactic(auto)]
+
 ghost use Rattle.std.specs.Prelude.{◌≡◌};
 ghost use Rattle.found_layout.specs.Found.{finds};
 ghost use Rattle.table_lines.specs.Lines.{skipped};

@@ -1,6 +1,7 @@
 // Which properties nearly always come with one or two others in the table on standard input (02, request 3/13). Beside it, on standard
 // error: why a file is refused.
 #![tactic(auto)]
+
 use libc::{STDERR_FILENO, STDIN_FILENO};
 use nearly_output::OUTPUT_BYTES;
 use standard_streams::REPORT_BYTES;

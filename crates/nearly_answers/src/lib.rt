@@ -1,5 +1,6 @@
 // What the program nearly answers to the bytes that it has read (02, request 3/13): its output, and beside it why a file is refused.
 #![tactic(auto)]
+
 ghost use Rattle.std.specs.Prelude.{take};
 ghost use Rattle.table_layout.specs.Layout.{opened_of};
 ghost use Rattle.text.specs.Page.{Puts};

@@ -1,5 +1,6 @@
 // The lines of the program `nearly`, written into a lent buffer from an offset on; the answer is the offset behind them.
 #![tactic(auto)]
+
 ghost use Rattle.std.specs.Prelude.{[], ◌∷◌, ◌^◌, ◌<◌, length};
 ghost use Rattle.context.specs.Objects.{objects_of};
 ghost use Rattle.text.specs.Page.{Puts};

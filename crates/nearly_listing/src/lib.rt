@@ -1,5 +1,6 @@
 // Lists what nearly always comes with a premise, for rows that are lent without a session.
 #![tactic(auto)]
+
 ghost use Rattle.context.specs.Parts.{shared};
 ghost use Rattle.nearly_listing.specs.Listing.{PercentChecked, Lists};
 

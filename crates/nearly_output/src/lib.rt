@@ -1,5 +1,6 @@
 // The output of the program nearly (02, request 3/13), handed over: the lines of a table file, or the line of its refusal.
 #![tactic(auto)]
+
 ghost use Rattle.std.specs.Prelude.{length};
 ghost use Rattle.context.specs.Objects.{objects_of};
 ghost use Rattle.handed_output.specs.Handing.{Tells, Writes};

@@ -1,6 +1,7 @@
 // The checks of an offered row, in document 01's order: 9 and 10 of a test to a question that stands, 9 and 11 of a filing; 9, 33 and 11 of
 // marks offered for a row.
 #![tactic(auto)]
+
 ghost use Rattle.context.specs.Parts.{shared};
 ghost use Rattle.implication.specs.Closure.{implication};
 ghost use Rattle.context.specs.Objects.{object, contradicts};

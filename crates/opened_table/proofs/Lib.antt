@@ -1,3 +1,1 @@
-pub mod Viewed
-pub mod Naming
 pub mod Views

@@ -1,5 +1,6 @@
 // An opened table as a view: the file that it was opened from and what reading it found (01, "The table file").
 #![tactic(auto)]
+
 ghost use Rattle.std.specs.Prelude.{◌≡◌, length};
 ghost use Rattle.table_layout.specs.Layout.{opened_of};
 ghost use Rattle.mark_reading.specs.Marks.{reading_as, words_of_rows};

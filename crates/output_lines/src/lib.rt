@@ -1,6 +1,7 @@
 // The lines of the program's output that have a rule, each written into a lent buffer from an offset on; the answer is the offset
 // behind it.
 #![tactic(auto)]
+
 ghost use Rattle.std.specs.Prelude.{[], ◌∷◌, ◌++◌};
 ghost use Rattle.implication.specs.Closure.{implication};
 ghost use Rattle.text.specs.Page.{Puts};

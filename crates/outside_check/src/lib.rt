@@ -1,5 +1,6 @@
 // Check 4 of document 01: nothing in the session record and the lent words, nor the rule asked about, has an attribute outside M.
 #![tactic(auto)]
+
 ghost use Rattle.context.specs.Parts.{shared};
 ghost use Rattle.std.specs.Prelude.{◌≡◌, Bool, ◌*◌, ◌≤◌, length};
 ghost use Rattle.implication.specs.Pairs.{pairs};

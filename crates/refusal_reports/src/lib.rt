@@ -1,5 +1,6 @@
 // Why a table file was refused, in words: the line and what was expected there, and the sentence of the refusal.
 #![tactic(auto)]
+
 ghost use Rattle.text.specs.Page.{Puts};
 ghost use Rattle.refusal_reports.specs.Reports.{line_text, sentence_line};
 ghost use Rattle.refusal_reports.specs.Reports.{report, explanation, explanation_of};

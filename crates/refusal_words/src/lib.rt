@@ -1,5 +1,6 @@
 // What each refusal number means, and what a person does next, written into a lent buffer.
 #![tactic(auto)]
+
 ghost use Rattle.std.specs.Prelude.{◌≡◌};
 ghost use Rattle.text.specs.Page.{Puts};
 ghost use Rattle.refusal_words.specs.Words.{ends, shown, left, line_number, sentence};

@@ -1,6 +1,7 @@
 // What of an implication an object refutes by the marks that the implications in force imply. An object is two words: the yes marks, then
 // the no marks. In force are the whole background and the first so many of the list.
 #![tactic(auto)]
+
 ghost use Rattle.context.specs.Parts.{shared};
 ghost use Rattle.std.specs.Prelude.{◌≡◌};
 ghost use Rattle.std.specs.Int.Bits.{bit_and};

@@ -1,6 +1,7 @@
 // Objects in a flat slice, two words each: whether one of them refutes an implication by the marks that the implications in force
 // imply, and the first that does. In force are the whole background and the first so many of the list.
 #![tactic(auto)]
+
 ghost use Rattle.context.specs.Parts.{shared};
 ghost use Rattle.std.specs.Prelude.{◌≡◌, ◌*◌, ◌≤◌, length};
 ghost use Rattle.implication.specs.Closure.{implication};

@@ -1,5 +1,6 @@
 // All checks of a yes and of a test: 1 to 7, 8, and those behind it.
 #![tactic(auto)]
+
 ghost use Rattle.context.specs.Parts.{shared};
 ghost use Rattle.std.specs.Prelude.{◌≡◌};
 ghost use Rattle.context.specs.Objects.{object};

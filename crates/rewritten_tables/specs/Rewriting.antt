@@ -2,7 +2,7 @@
 -- written with the file's own names, where they stand in it.
 use Rattle.std.specs.Prelude.{◌≡◌, List, ℕ, ◌*◌, ◌≤◌, length, take, replicate}
 use Rattle.session.specs.Limits.{most_objects}
-use Rattle.text.specs.Page.{Buffer, Bytes}
+use Rattle.text.specs.Page.{Buffer, Bytes as LentBytes}
 use Rattle.table_layout.specs.declared.Opened.{Opened}
 use Rattle.table_layout.specs.declared.Opened.TheVariants.{Found, Refused as Unread}
 use Rattle.table_layout.specs.Layout.{opened_of}
@@ -23,7 +23,7 @@ abbrev pub RewritesFrom : List ℕ → List ℕ → Written → List ℕ → Typ
 RewritesFrom file out x out' = RewritesAs (opened_of file) file out x out'
 
 -- What writing a file anew promises of the answer and of the lent output.
-abbrev pub Rewrites : Bytes → Buffer → Written → Type 0
+abbrev pub Rewrites : LentBytes → Buffer → Written → Type 0
 Rewrites file out x = RewritesFrom file.entry.now out.entry.now x out.exit.now
 
 -- by what the file opens as: what is written of it settles, or it is refused with 30; or the reader's refusal, and every byte of the output

@@ -1,5 +1,6 @@
 // A table file written anew: what is read of it, with its own names where they stand in it.
 #![tactic(auto)]
+
 ghost use Rattle.rewritten_tables.specs.Rewriting.{Rewrites};
 
 use session::Session;

@@ -1,5 +1,6 @@
 // Checks 1 to 5 of document 01 for rows that are lent without a session.
 #![tactic(auto)]
+
 ghost use Rattle.row_checks.specs.Rows.{RowsChecked, RowsCheckedWith};
 
 // Checks 1 to 5, where 4 covers the set asked about too: those of a session that has the rows and no rules, of which 6 and 7 cannot be the

@@ -1,6 +1,7 @@
 // Which attributes the rows with a premise nearly always have (02, request 3/13), below the checks: one pass over the rows, with a count
 // for each attribute.
 #![tactic(auto)]
+
 ghost use Rattle.std.specs.Prelude.{◌≡◌, ◌*◌, ◌^◌, ◌≤◌, ◌<◌, length};
 ghost use Rattle.session.specs.Limits.{most_attributes, most_objects};
 ghost use Rattle.context.specs.Objects.{objects_of};

@@ -1,6 +1,7 @@
 // The reach of a set over objects in a flat slice, two words each: the yes marks, then the no marks. Objects are read by the marks that
 // the implications in force imply: the whole background and the first so many of the list.
 #![tactic(auto)]
+
 ghost use Rattle.context.specs.Parts.{shared};
 ghost use Rattle.std.specs.Prelude.{◌≡◌, ◌*◌, ◌≤◌, min, length};
 ghost use Rattle.context.specs.Objects.{object};

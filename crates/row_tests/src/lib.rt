@@ -1,5 +1,6 @@
 // The tests behind the checks of an offered row: of its marks alone (9), against known marks (33), and against the rules in force (11).
 #![tactic(auto)]
+
 ghost use Rattle.context.specs.Parts.{shared};
 ghost use Rattle.std.specs.Prelude.{◌≡◌};
 ghost use Rattle.context.specs.Objects.{object, contradicts};

@@ -1,5 +1,6 @@
 // Checks 11 and 12 of document 01, in its order, of a yes to a question that stands.
 #![tactic(auto)]
+
 ghost use Rattle.context.specs.Parts.{shared};
 ghost use Rattle.implication.specs.Closure.{implication};
 ghost use Rattle.machine.specs.Calls.{given};

@@ -1,5 +1,6 @@
 // A saved interview taken up again: a session is opened, and a log of calls is made on it.
 #![tactic(auto)]
+
 ghost use Rattle.context.specs.Parts.{mutable, shared};
 ghost use Rattle.saved_interview.specs.TakingUp.{TurnAfter, TakesUpTo};
 

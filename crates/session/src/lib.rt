@@ -1,5 +1,6 @@
 // The session record with its limits, and the refusal: what every call of the library is made with.
 #![tactic(auto)]
+
 ghost use Rattle.std.specs.Prelude.{◌≡◌, not};
 ghost use Rattle.session.specs.Refusals.{refusal};
 ghost use Rattle.session.specs.Records.{same_session};

@@ -1,5 +1,6 @@
 // Checks 1 to 7 of document 01, in its order, on the session record and the lent words (row words, list words, background words).
 #![tactic(auto)]
+
 ghost use Rattle.context.specs.Parts.{shared};
 ghost use Rattle.std.specs.Prelude.{◌≡◌};
 ghost use Rattle.implication.specs.Closure.{implication};

@@ -1,6 +1,7 @@
 // The filing of an offered row, by value. It takes the record and the lent words (row words, list words, background words), makes its
 // checks, writes the row, and gives the record back.
 #![tactic(auto)]
+
 ghost use Rattle.context.specs.Parts.{mutable, shared};
 ghost use Rattle.context.specs.Objects.{object};
 ghost use Rattle.machine.specs.Machine.{file};

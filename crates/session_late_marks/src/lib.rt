@@ -1,6 +1,7 @@
 // The filling of a row with marks that became known, by value. It takes the record and the lent words (row words, list words, background
 // words), makes its checks, and writes the row. The record stays as it is.
 #![tactic(auto)]
+
 ghost use Rattle.context.specs.Parts.{mutable, shared};
 ghost use Rattle.std.specs.Prelude.{◌≡◌, ◌+◌, ◌*◌, ◌<◌, length};
 ghost use Rattle.context.specs.Objects.{object};

@@ -1,6 +1,7 @@
 // The no to the standing question of a session, by value: the test of the offered row, and where it passes the filing. It takes the record
 // and the lent words (row words, list words, background words), and gives the record back.
 #![tactic(auto)]
+
 ghost use Rattle.context.specs.Parts.{mutable, shared};
 ghost use Rattle.context.specs.Objects.{object};
 ghost use Rattle.machine.specs.Machine.{reject as rejecting};

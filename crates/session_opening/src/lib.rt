@@ -1,6 +1,7 @@
 // The opening of a session, by value: it takes the lent words (row words, list words, background words), makes its checks, and gives the
 // record.
 #![tactic(auto)]
+
 ghost use Rattle.context.specs.Parts.{shared};
 ghost use Rattle.session_opening.specs.Opening.{Opens};
 

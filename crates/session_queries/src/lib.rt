@@ -1,6 +1,7 @@
 // The two read-only calls of a session, by value. Each takes the record and the lent words (row words, list words, background words),
 // makes its checks, and writes none of the words.
 #![tactic(auto)]
+
 ghost use Rattle.context.specs.Parts.{shared};
 ghost use Rattle.implication.specs.Closure.{implication};
 ghost use Rattle.machine.specs.Machine.{follow, refute};

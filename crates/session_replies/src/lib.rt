@@ -1,5 +1,6 @@
 // What a reply to the standing question of a session gives back, by value, and a filing too: the answer and the record.
 #![tactic(auto)]
+
 ghost use Rattle.std.specs.Prelude.{◌≡◌};
 ghost use Rattle.session_replies.specs.Answers.{refused_with};
 

@@ -1,6 +1,7 @@
 // The step of a session, by value. It takes the record and the lent words (row words, list words, background words), makes its checks,
 // writes none of the words, and gives the record back.
 #![tactic(auto)]
+
 ghost use Rattle.context.specs.Parts.{shared};
 ghost use Rattle.machine.specs.Machine.{step as stepping};
 ghost use Rattle.machine.specs.Calls.{Turns};

@@ -1,6 +1,7 @@
 // The test of an offered row, by value. It takes the record and the lent words (row words, list words, background words), makes its
 // checks, and writes none of the words.
 #![tactic(auto)]
+
 ghost use Rattle.context.specs.Parts.{shared};
 ghost use Rattle.context.specs.Objects.{object};
 ghost use Rattle.machine.specs.Machine.{test};

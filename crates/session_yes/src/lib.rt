@@ -1,6 +1,7 @@
 // The yes to the standing question of a session, by value. It takes the record and the lent words (row words, list words, background
 // words), makes its checks, writes the rule, and gives the record back.
 #![tactic(auto)]
+
 ghost use Rattle.context.specs.Parts.{mutable, shared};
 ghost use Rattle.machine.specs.Machine.{accept as accepting};
 ghost use Rattle.machine.specs.Calls.{Turns};

@@ -1,5 +1,6 @@
 // Sets of attributes as words: the few functions that shift and mask.
 #![tactic(auto)]
+
 ghost use Rattle.std.specs.Prelude.{◌≡◌, ◌%◌, ◌^◌, ◌<◌, min};
 ghost use Rattle.attribute_set.specs.Sets.{digit, full, without};
 ghost use Rattle.attribute_set.specs.Lectic.{below, raise};

@@ -1,5 +1,6 @@
 // Checks 1 to 3 of document 01, in its order: the number of attributes, the lent lengths, the rows and rules in use. What checks answer.
 #![tactic(auto)]
+
 ghost use Rattle.context.specs.Parts.{shared};
 ghost use Rattle.std.specs.Prelude.{◌≡◌};
 ghost use Rattle.std.proofs.Math.Option.{some};

@@ -1,5 +1,6 @@
 // The tests of checks 1 to 3 of document 01: of the number of attributes, the lent lengths, and the rows and rules in use.
 #![tactic(auto)]
+
 ghost use Rattle.std.specs.Prelude.{◌≡◌, ◌||◌, ◌/◌, eqb, ltb};
 ghost use Rattle.session.specs.Limits.{most_attributes, most_objects, most_implications, bad_length};
 

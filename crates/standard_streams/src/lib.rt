@@ -1,5 +1,6 @@
 // What the programs have in common: standard input read to a buffer, and words for a person on standard error.
 #![tactic(auto)]
+
 ghost use Rattle.io.specs.Counts.{IsPrefixLen};
 
 use libc::STDERR_FILENO;

@@ -1,5 +1,6 @@
 // How the current set stands, where checks 1 to 7 pass.
 #![tactic(auto)]
+
 ghost use Rattle.context.specs.Parts.{shared};
 ghost use Rattle.std.specs.Prelude.{◌≡◌};
 ghost use Rattle.machine.specs.Calls.{given};

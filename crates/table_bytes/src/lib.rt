@@ -1,5 +1,6 @@
 // The bytes of a table file: digits and marks.
 #![tactic(auto)]
+
 ghost use Rattle.std.specs.Prelude.{◌≡◌};
 ghost use Rattle.table_bytes.specs.Bytes.{is_digit, is_yes, is_no, is_unknown, is_mark, passes};
 

@@ -1,5 +1,6 @@
 // The count lines of a table file: 1 to 4 digits, and the count that they are.
 #![tactic(auto)]
+
 ghost use Rattle.std.specs.Prelude.{◌≡◌, true, ◌≤◌, length};
 ghost use Rattle.table_bytes.specs.Bytes.{is_digit};
 ghost use Rattle.line_bytes.specs.Everywhere.{everywhere};

@@ -1,6 +1,7 @@
 // Reads every table file that its arguments name, and writes a line for each: its name, then the refusal, or the counts and
 // offsets found, the words of the first and the last row, and the lengths of the first and the last name of each kind.
 #![tactic(auto)]
+
 use libc::STDOUT_FILENO;
 
 fn put(n: u64) {

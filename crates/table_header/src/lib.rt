@@ -1,5 +1,6 @@
 // The first five lines of a table file, and the counts in its third and fourth line. An object is 01's row, an attribute its property.
 #![tactic(auto)]
+
 ghost use Rattle.std.specs.Prelude.{◌≡◌, ◌≤◌, length};
 ghost use Rattle.table_lines.specs.Lines.{bytes_at};
 ghost use Rattle.table_counts.specs.Counts.{count_of};

@@ -1,5 +1,6 @@
 // The interview of the complete table in a file (01: the program): beats until the last, each line written out when it is known.
 #![tactic(auto)]
+
 ghost use Rattle.context.specs.Parts.{mutable, shared};
 ghost use Rattle.std.specs.Prelude.{[], ◌*◌, ◌≤◌, length};
 ghost use Rattle.context.specs.Objects.{objects_of};

@@ -1,6 +1,7 @@
 // The kinds of lines of a table file, and the number with which a missing one is refused. An object is 01's row, an attribute its
 // property.
 #![tactic(auto)]
+
 ghost use Rattle.std.specs.Prelude.{◌≡◌};
 ghost use Rattle.table_kinds.specs.Kinds.{absent};
 

@@ -1,6 +1,7 @@
 // The layout of Burmeister's table file: its lines in order, and what an opened table keeps. An object is 01's row, an attribute its
 // property.
 #![tactic(auto)]
+
 ghost use Rattle.std.specs.Prelude.{◌≡◌};
 ghost use Rattle.table_layout.specs.Layout.{opened_from, opened_of};
 

@@ -1,5 +1,6 @@
 // The marks of a table file: each line of them as the two words of a row (an object), read into lent row words.
 #![tactic(auto)]
+
 ghost use Rattle.std.specs.Prelude.{◌≡◌, ◌*◌, ◌≤◌, ◌++◌, length, drop, replicate};
 ghost use Rattle.session.specs.Limits.{most_attributes};
 ghost use Rattle.table_kinds.specs.declared.Kind.TheVariants.{Marks};

@@ -1,5 +1,6 @@
 // The names of a table file by number, as the file's own bytes. An object is 01's row, an attribute its property.
 #![tactic(auto)]
+
 ghost use Rattle.std.specs.Prelude.{◌≡◌, ◌+◌, ◌≤◌, length};
 ghost use Rattle.name_spans.specs.Spans.{object_span, attribute_span};
 ghost use Rattle.table_names.specs.Names.{bytes_of, name_refusal, Named};

@@ -1,1 +1,1 @@
-pub mod Reply
+pub mod OfReply

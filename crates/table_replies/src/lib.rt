@@ -1,5 +1,6 @@
 // The table's reply to the question of an interview (01: the program), below the checks.
 #![tactic(auto)]
+
 ghost use Rattle.context.specs.Parts.{mutable, shared};
 ghost use Rattle.table_replies.specs.Reply.{Replies};
 

@@ -1,5 +1,6 @@
 // The row (an object) of a line of marks: its two words.
 #![tactic(auto)]
+
 ghost use Rattle.std.specs.Prelude.{◌≡◌, ◌≤◌, length, take};
 ghost use Rattle.context.specs.Objects.{object};
 ghost use Rattle.session.specs.Limits.{most_attributes};

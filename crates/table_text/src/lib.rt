@@ -1,6 +1,7 @@
 // The parts of the text of a table file, written into a lent buffer from an offset on; the answer is the offset behind them. An object
 // is 01's row, an attribute its property.
 #![tactic(auto)]
+
 ghost use Rattle.std.specs.Prelude.{[], ◌∷◌};
 ghost use Rattle.context.specs.Objects.{objects_of, whole};
 ghost use Rattle.text.specs.Page.{Puts};

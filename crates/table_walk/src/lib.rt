@@ -1,5 +1,6 @@
 // The lines of a table file in order: the first one that is refused, or where they end.
 #![tactic(auto)]
+
 ghost use Rattle.std.specs.Prelude.{◌≡◌, length, replicate};
 ghost use Rattle.table_walk.specs.Walk.{walk_on, rest, then_rest, place_of};
 

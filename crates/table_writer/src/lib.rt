@@ -1,6 +1,7 @@
 // Writes a table file into a lent output: the text stands at its start, and every byte behind it is kept. An object is 01's row, an
 // attribute its property.
 #![tactic(auto)]
+
 ghost use Rattle.context.specs.Parts.{shared};
 ghost use Rattle.std.specs.Prelude.{◌≡◌, length};
 ghost use Rattle.text.specs.Page.{Puts};

@@ -9,7 +9,7 @@ use Rattle.line_walk.specs.declared.Walk.TheVariants.{Failed, At}
 use Rattle.line_walk.specs.Walk.{walk}
 use Rattle.table_walk.specs.Walk.{place_of}
 use Rattle.table_layout.specs.Layout.{most_bytes}
-use Rattle.text.specs.Page.{Buffer, Bytes}
+use Rattle.text.specs.Page.{Buffer, Bytes as LentBytes}
 use Rattle.machine.specs.Checks.{Check, check, first_failing}
 use Rattle.machine.specs.Calls.{Words}
 use Rattle.row_checks.specs.Rows.{row_checks}
@@ -66,6 +66,6 @@ pub record WritesFrom (n used : ℕ) (words names out : List ℕ) (x : Written) 
   pub output : out' ≡ output_after x (text_of n used words names) out
 
 -- over the lent slices: row words, names, output
-abbrev pub Writes : ℕ → ℕ → Words → Bytes → Buffer → Written → Type 0
+abbrev pub Writes : ℕ → ℕ → Words → LentBytes → Buffer → Written → Type 0
 Writes n used rows names out x =
     WritesFrom n used rows.entry.now names.entry.now out.entry.now x out.exit.now

@@ -1,6 +1,7 @@
 // Bytes, numbers and sets as text, each written into a lent buffer from an offset on; the answer is the offset behind it.
 // What does not fit is dropped, so that every function is total.
 #![tactic(auto)]
+
 ghost use Rattle.std.specs.Prelude.{◌≡◌, [], ◌∷◌, length};
 ghost use Rattle.text.specs.Text.{number_text, mark_text, set_text};
 ghost use Rattle.text.specs.Text.Digits.{Leads};

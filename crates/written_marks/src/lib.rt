@@ -1,6 +1,7 @@
 // Refutation by written marks, over objects in a flat slice, two words each: the yes marks, then the no marks. For interviews of complete
 // tables, whose rows count as having and lacking just what is written.
 #![tactic(auto)]
+
 ghost use Rattle.std.specs.Prelude.{◌≡◌, ◌*◌, ◌≤◌, length};
 ghost use Rattle.implication.specs.Closure.{implication};
 ghost use Rattle.context.specs.Objects.{object, objects_of, refutes_written, first_written};

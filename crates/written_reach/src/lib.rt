@@ -1,6 +1,7 @@
 // The reach by written marks, over objects in a flat slice, two words each: the yes marks, then the no marks. For interviews of complete
 // tables, whose rows count as having and lacking just what is written.
 #![tactic(auto)]
+
 ghost use Rattle.std.specs.Prelude.{◌≡◌, ◌*◌, ◌≤◌, min, length};
 ghost use Rattle.context.specs.Objects.{object, objects_of};
 ghost use Rattle.written_marks.specs.Written.{cut_written, narrow_written, reach_written};

@@ -1,6 +1,7 @@
 // Reads every table file that its arguments name and writes what was read: the file's name with the refusal, or with the number of bytes,
 // the text, and whether the text, read and written once more, is the same bytes.
 #![tactic(auto)]
+
 use libc::STDOUT_FILENO;
 use table_layout::Layout;
 use table_writing::Written;

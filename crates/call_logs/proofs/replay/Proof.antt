@@ -4,7 +4,7 @@ use Prim.Native.Nat.{◌+◌, ◌-◌, ◌<◌}
 use borrow.Author.Rules.{rules}
 use native.Mathlib.Omega.{arith}
 use Rattle.call_logs.specs.Replay.{log_words}
-use Rattle.call_logs.proofs.Replay.Loop.{Going, going_start, going_on, going_end}
+use Rattle.call_logs.proofs.OfReplay.Loop.{Going, going_start, going_on, going_end}
 use Rattle.call_logs.proofs.replay.Statement.{statement}
 use Rattle.call_logs.proofs.replay.Tie as tie
 

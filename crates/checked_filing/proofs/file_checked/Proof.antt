@@ -21,68 +21,56 @@ use Rattle.checked_filing.proofs.Checked.Laws.{filed-refused, filed-taken}
 use Rattle.checked_filing.proofs.file_checked.Statement.{statement}
 use Rattle.checked_filing.proofs.file_checked.Tie as tie
 
-abbrev start : tie.After-check-filed-row → tie.Start
-start c = c.before.before.before.before
+abbrev state : tie.After-check_filed_row-outcome → State
+state c = let a = c.args in state_of a.session a.rows.now a.list.now a.background.now
 
-abbrev state : tie.After-check-filed-row → State
-state c = let a = (start c).args in state_of a.session a.rows.now a.list.now a.background.now
-
-abbrev offered : tie.After-check-filed-row → Object
-offered c = object (start c).args.yes (start c).args.no
+abbrev offered : tie.After-check_filed_row-outcome → Object
+offered c = object c.args.yes c.args.no
 
 -- checks 9 and 11, and check 12
-abbrev early : tie.After-check-filed-row → List Check
+abbrev early : tie.After-check_filed_row-outcome → List Check
 early c = let s = state c in check 9 (bad_row s.n (offered c)) 0 ∷ check 11 (contradicts (force s) (offered c)) 0 ∷ []
 
-abbrev twelve : tie.After-check-filed-row → Check
+abbrev twelve : tie.After-check_filed_row-outcome → Check
 twelve c = let s = state c in check 12 (leb (s.lent.rows / 2) (length s.rows)) 0
 
-tested : (c : tie.After-check-filed-row) (x : Verdict) → c.check-filed-row.result ≡ x → first_failing (early c) ≡ verdict_of x
-tested c x e = sym (sym (ap verdict_of e) ∙ c.check-filed-row.ensures)
+tested : (c : tie.After-check_filed_row-outcome) (x : Verdict) → c.check_filed_row-outcome.result ≡ x → first_failing (early c) ≡ verdict_of x
+tested c x e = sym (sym (ap verdict_of e) ∙ c.check_filed_row-outcome.ensures)
 
--- 9 and 11 pass, and check 12 decides
-abbrev checked : tie.After-enum-told → tie.After-check-filed-row
-checked c = c.before.before
-
-after-eleven : (c : tie.After-enum-told)
-    → first_failing (filing_checks (state (checked c)) (offered (checked c))) ≡ first_failing (twelve (checked c) ∷ [])
+after-eleven : (c : tie.In_default)
+    → first_failing (filing_checks (state c.before) (offered c.before)) ≡ first_failing (twelve c.before ∷ [])
 unfolding filing_checks
 after-eleven c =
-    let d = checked c in
-    failing-append (early d) (twelve d ∷ []) (passed (early d) (tested d _ c.enum_told.given.1))
+    failing-append (early c.before) (twelve c.before ∷ []) (passed (early c.before) (tested c.before _ c.in_default.is))
 
-returns : tie.Need-returns
+returns : tie.Need-returns-in-Refused
 unfolding filing_checks
 returns c =
-    let d = c.before.before.before.before in
-    filed-refused _ c.refused.ensures (failing-first (early d) (twelve d ∷ []) _ (tested d _ c.before.before.outcome.given.1))
+    filed-refused _ c.refused.ensures (failing-first (early c.before.before) (twelve c.before.before ∷ []) _ (tested c.before.before _ c.in-Refused.is))
 
-returns-2 : tie.Need-returns-2
+returns-2 : tie.Need-returns-then-rows-used
 returns-2 c =
-    let t = c.before.before in
-    let d = checked t.before in
-    let a = (start d).args in
-    let full : (twelve d).fails ≡ true = rw length_pairs (le-leb (length a.rows.now / 2) a.session.rows (omega arith)) in
-    filed-refused _ (c.refused2.ensures ∙ ap (refused_with a.session) c.before.refuse.ensures)
-    (after-eleven t.before ∙ failing-here (twelve d) [] full)
+    let a = c.args in
+    let full : (twelve c.before.before.before.before).fails ≡ true = rw length_pairs (le-leb (length a.rows.now / 2) a.session.rows (omega arith)) in
+    filed-refused _ (c.refused-then-rows-used.ensures ∙ ap (refused_with a.session) c.refuse.ensures)
+    (after-eleven c.before.before.before ∙ failing-here (twelve c.before.before.before.before) [] full)
 
 -- there is a place
-room : (c : tie.Else1) → let a = (start (checked c.before)).args in a.session.rows * 2 + 1 < length a.rows.now
+room : (c : tie.Else-rows-used) → let a = c.args in a.session.rows * 2 + 1 < length a.rows.now
 room c = omega arith
 
-slice-write-rows-2 : tie.Need-slice-write-rows-2
+slice-write-rows-2 : tie.Need-bounds-rows-used-2
 slice-write-rows-2 c = rw length-set (omega (arith, room c))
 
-returns-3 : tie.Need-returns-3
+returns-3 : tie.Need-returns
 returns-3 c =
-    let d = checked c.before in
-    let a = (start d).args in
-    let free : (twelve d).fails ≡ false = rw length_pairs (lt-leb (length a.rows.now / 2) a.session.rows (omega arith)) in
+    let a = c.args in
+    let free : (twelve c.before.before).fails ≡ false = rw length_pairs (lt-leb (length a.rows.now / 2) a.session.rows (omega arith)) in
     filed-taken a.session a.rows.now a.list.now a.background.now a.yes a.no
-    (after-eleven c.before ∙ failing-later (twelve d) [] free ∙ failing-nothing) (room c)
+    (after-eleven c.before ∙ failing-later (twelve c.before.before) [] free ∙ failing-nothing) (room c)
 
-pub file-checked-spec : {M : Type 1} → statement M
-file-checked-spec =
+pub file_checked_spec : {M : Type 1} → statement M
+file_checked_spec =
     tie.close
     (tie.spec
     (λ c κs. search rules)

@@ -70,18 +70,16 @@ returns c =
     (ap (bit_and c.close_until-found.result) (sym (stop c.before)) ∙ c.if-found-stop-eq0.true)) ∙ left c.before.before.before.before.before.before.before
 
 loop-again : tie.Need-loop-j-preserved-else-found-stop-eq0 invariant-loop decreases-loop
-loop-again c =
-    (
-      omega arith,
-      sym (next-left (in_use c.before.before.before.before.before.before.before) (set c.before.before.before.before.before.before.before) (at c.before.before.before.before.before.before.before) (given c.before) (λ e. c.if-found-stop-eq0.false (ap (bit_and c.close_until-found.result) (stop c.before) ∙ e))) ∙ left c.before.before.before.before.before.before.before,
-    )
+loop-again c = (
+  omega arith,
+  sym (next-left (in_use c.before.before.before.before.before.before.before) (set c.before.before.before.before.before.before.before) (at c.before.before.before.before.before.before.before) (given c.before) (λ e. c.if-found-stop-eq0.false (ap (bit_and c.close_until-found.result) (stop c.before) ∙ e))) ∙ left c.before.before.before.before.before.before.before,
+)
 
 loop-again-2 : tie.Need-loop-j-preserved invariant-loop decreases-loop
-loop-again-2 c =
-    (
-      omega arith,
-      sym (next-passed (in_use c.before.before) (set c.before.before) (at c.before.before) (λ f. c.if-digit_of-eq0.false (c.digit_of.ensures ∙ f.lacks))) ∙ left c.before.before,
-    )
+loop-again-2 c = (
+  omega arith,
+  sym (next-passed (in_use c.before.before) (set c.before.before) (at c.before.before) (λ f. c.if-digit_of-eq0.false (c.digit_of.ensures ∙ f.lacks))) ∙ left c.before.before,
+)
 
 returns-2 : tie.Need-returns invariant-loop decreases-loop
 unfolding next_below

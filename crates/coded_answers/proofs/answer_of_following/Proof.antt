@@ -6,17 +6,17 @@ use Rattle.answer_words.specs.Codes.{code_of}
 use Rattle.coded_answers.proofs.answer_of_following.Statement.{statement}
 use Rattle.coded_answers.proofs.answer_of_following.Tie as tie
 
-returns : tie.Need-returns
-returns c = c.in_words_lem.ensures ∙ sym (ap (λ a. code_of (following_answer a)) c.before.enum_told.given.1)
+returns : tie.Need-returns-in-Follows
+returns c = c.in_words.ensures ∙ sym (ap (λ a. code_of (following_answer a)) c.in-Follows.is)
 
-returns-2 : tie.Need-returns-2
-returns-2 c = c.in-words2.ensures ∙ sym (ap (λ a. code_of (following_answer a)) c.before.enum-told2.given.1)
+returns-2 : tie.Need-returns-in-Lacking
+returns-2 c = c.in_words-in-Lacking.ensures ∙ sym (ap (λ a. code_of (following_answer a)) c.in-Lacking.is)
 
-returns-3 : tie.Need-returns-3
-returns-3 c = c.answer-of-refusal.ensures ∙ sym (ap (λ a. code_of (following_answer a)) c.before.before.answer.given.1)
+returns-3 : tie.Need-returns-in-Refused
+returns-3 c = c.answer_of_refusal.ensures ∙ sym (ap (λ a. code_of (following_answer a)) c.in-Refused.is)
 
-pub answer-of-following-spec : {M : Type 1} → statement M
-answer-of-following-spec =
+pub answer_of_following_spec : {M : Type 1} → statement M
+answer_of_following_spec =
     tie.close
     (tie.spec
     (λ c. search rules)

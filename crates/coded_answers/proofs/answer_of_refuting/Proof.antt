@@ -6,17 +6,17 @@ use Rattle.answer_words.specs.Codes.{code_of}
 use Rattle.coded_answers.proofs.answer_of_refuting.Statement.{statement}
 use Rattle.coded_answers.proofs.answer_of_refuting.Tie as tie
 
-returns : tie.Need-returns
-returns c = c.in_words_lem.ensures ∙ sym (ap (λ a. code_of (refuting_answer a)) c.before.before.answer.given.1)
+returns : tie.Need-returns-in-By
+returns c = c.in_words.ensures ∙ sym (ap (λ a. code_of (refuting_answer a)) c.in-By.is)
 
-returns-2 : tie.Need-returns-2
-returns-2 c = c.in-words2.ensures ∙ sym (ap (λ a. code_of (refuting_answer a)) c.before.enum_told.given.1)
+returns-2 : tie.Need-returns-in-Nothing
+returns-2 c = c.in_words-in-Nothing.ensures ∙ sym (ap (λ a. code_of (refuting_answer a)) c.in-Nothing.is)
 
-returns-3 : tie.Need-returns-3
-returns-3 c = c.answer-of-refusal.ensures ∙ sym (ap (λ a. code_of (refuting_answer a)) c.before.before.answer2.given.1)
+returns-3 : tie.Need-returns-in-Refused
+returns-3 c = c.answer_of_refusal.ensures ∙ sym (ap (λ a. code_of (refuting_answer a)) c.in-Refused.is)
 
-pub answer-of-refuting-spec : {M : Type 1} → statement M
-answer-of-refuting-spec =
+pub answer_of_refuting_spec : {M : Type 1} → statement M
+answer_of_refuting_spec =
     tie.close
     (tie.spec
     (λ c. search rules)

@@ -6,20 +6,20 @@ use Rattle.answer_words.specs.Codes.{code_of}
 use Rattle.coded_answers.proofs.answer_of_step.Statement.{statement}
 use Rattle.coded_answers.proofs.answer_of_step.Tie as tie
 
-returns : tie.Need-returns
-returns c = c.in_words_lem.ensures ∙ sym (ap (λ a. code_of (step_answer a)) c.before.enum_told.given.1)
+returns : tie.Need-returns-in-Finished
+returns c = c.in_words.ensures ∙ sym (ap (λ a. code_of (step_answer a)) c.in-Finished.is)
 
-returns-2 : tie.Need-returns-2
-returns-2 c = c.in-words2.ensures ∙ sym (ap (λ a. code_of (step_answer a)) c.before.enum-told2.given.1)
+returns-2 : tie.Need-returns-in-Moved
+returns-2 c = c.in_words-in-Moved.ensures ∙ sym (ap (λ a. code_of (step_answer a)) c.in-Moved.is)
 
-returns-3 : tie.Need-returns-3
-returns-3 c = c.in-words3.ensures ∙ sym (ap (λ a. code_of (step_answer a)) c.before.before.answer.given.1)
+returns-3 : tie.Need-returns-in-Asked
+returns-3 c = c.in_words-in-Asked.ensures ∙ sym (ap (λ a. code_of (step_answer a)) c.in-Asked.is)
 
-returns-4 : tie.Need-returns-4
-returns-4 c = c.answer-of-refusal.ensures ∙ sym (ap (λ a. code_of (step_answer a)) c.before.before.answer2.given.1)
+returns-4 : tie.Need-returns-in-Refused
+returns-4 c = c.answer_of_refusal.ensures ∙ sym (ap (λ a. code_of (step_answer a)) c.in-Refused.is)
 
-pub answer-of-step-spec : {M : Type 1} → statement M
-answer-of-step-spec =
+pub answer_of_step_spec : {M : Type 1} → statement M
+answer_of_step_spec =
     tie.close
     (tie.spec
     (λ c. search rules)

@@ -6,14 +6,14 @@ use Rattle.answer_words.specs.Codes.{code_of}
 use Rattle.coded_answers.proofs.answer_of_testing.Statement.{statement}
 use Rattle.coded_answers.proofs.answer_of_testing.Tie as tie
 
-returns : tie.Need-returns
-returns c = c.in_words_lem.ensures ∙ sym (ap (λ a. code_of (testing_answer a)) c.before.enum_told.given.1)
+returns : tie.Need-returns-in-Refutes
+returns c = c.in_words.ensures ∙ sym (ap (λ a. code_of (testing_answer a)) c.in-Refutes.is)
 
-returns-2 : tie.Need-returns-2
-returns-2 c = c.answer-of-refusal.ensures ∙ sym (ap (λ a. code_of (testing_answer a)) c.before.before.answer.given.1)
+returns-2 : tie.Need-returns-in-Refused
+returns-2 c = c.answer_of_refusal.ensures ∙ sym (ap (λ a. code_of (testing_answer a)) c.in-Refused.is)
 
-pub answer-of-testing-spec : {M : Type 1} → statement M
-answer-of-testing-spec =
+pub answer_of_testing_spec : {M : Type 1} → statement M
+answer_of_testing_spec =
     tie.close
     (tie.spec
     (λ c. search rules)

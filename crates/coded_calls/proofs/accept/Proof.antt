@@ -6,7 +6,11 @@ use Rattle.coded_calls.proofs.accept.Statement.{statement}
 use Rattle.coded_calls.proofs.accept.Tie as tie
 
 returns : tie.Need-returns
-returns c = said-turn code_of c.answer-of-reply.ensures c.before.before.before.before.accept.ensures
+returns c = said-turn code_of c.answer_of_reply.ensures c.accept-made.ensures
 
-pub accept-spec : {M : Type 1} → statement M
-accept-spec = tie.close (tie.spec (λ c κs. search rules) (λ c κs. search rules) (λ c. search rules) returns)
+pub accept_spec : {M : Type 1} → statement M
+accept_spec = tie.close (tie.spec
+    (λ c κs. search rules)
+    (λ c κs. search rules)
+    (λ c. search rules)
+    returns)

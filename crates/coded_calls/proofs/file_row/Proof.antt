@@ -6,7 +6,11 @@ use Rattle.coded_calls.proofs.file_row.Statement.{statement}
 use Rattle.coded_calls.proofs.file_row.Tie as tie
 
 returns : tie.Need-returns
-returns c = said-turn code_of c.answer-of-reply.ensures c.before.before.before.before.file-row.ensures
+returns c = said-turn code_of c.answer_of_reply.ensures c.file_row-made.ensures
 
-pub file-row-spec : {M : Type 1} → statement M
-file-row-spec = tie.close (tie.spec (λ c κs. search rules) (λ c κs. search rules) (λ c. search rules) returns)
+pub file_row_spec : {M : Type 1} → statement M
+file_row_spec = tie.close (tie.spec
+    (λ c κs. search rules)
+    (λ c κs. search rules)
+    (λ c. search rules)
+    returns)

@@ -6,7 +6,11 @@ use Rattle.coded_calls.proofs.fill_row.Statement.{statement}
 use Rattle.coded_calls.proofs.fill_row.Tie as tie
 
 returns : tie.Need-returns
-returns c = said code_of c.answer-of-reply.ensures c.before.before.before.fill-row.ensures
+returns c = said code_of c.answer_of_reply.ensures c.fill_row-answer.ensures
 
-pub fill-row-spec : {M : Type 1} → statement M
-fill-row-spec = tie.close (tie.spec (λ c κs. search rules) (λ c κs. search rules) (λ c. search rules) returns)
+pub fill_row_spec : {M : Type 1} → statement M
+fill_row_spec = tie.close (tie.spec
+    (λ c κs. search rules)
+    (λ c κs. search rules)
+    (λ c. search rules)
+    returns)

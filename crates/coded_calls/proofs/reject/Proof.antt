@@ -6,7 +6,11 @@ use Rattle.coded_calls.proofs.reject.Statement.{statement}
 use Rattle.coded_calls.proofs.reject.Tie as tie
 
 returns : tie.Need-returns
-returns c = said-turn code_of c.answer-of-reply.ensures c.before.before.before.before.reject.ensures
+returns c = said-turn code_of c.answer_of_reply.ensures c.reject-made.ensures
 
-pub reject-spec : {M : Type 1} → statement M
-reject-spec = tie.close (tie.spec (λ c κs. search rules) (λ c κs. search rules) (λ c. search rules) returns)
+pub reject_spec : {M : Type 1} → statement M
+reject_spec = tie.close (tie.spec
+    (λ c κs. search rules)
+    (λ c κs. search rules)
+    (λ c. search rules)
+    returns)

@@ -6,7 +6,7 @@ use Rattle.coded_calls.proofs.step.Statement.{statement}
 use Rattle.coded_calls.proofs.step.Tie as tie
 
 returns : tie.Need-returns
-returns c = said-turn code_of c.answer-of-step.ensures c.before.before.make-step.ensures
+returns c = said-turn code_of c.answer_of_step.ensures c.make_step-made.ensures
 
 pub step_spec : {M : Type 1} → statement M
 step_spec = tie.close (tie.spec (λ c κs. search rules) (λ c κs. search rules) returns)

@@ -10,34 +10,34 @@ use Rattle.coded_opening.specs.Openings.{OpeningLeaves}
 use Rattle.coded_opening.proofs.«open».Statement.{statement}
 use Rattle.coded_opening.proofs.«open».Tie as tie
 
-abbrev start : tie.After-open → tie.Start
-start c = c.before.before.before.before
-
 -- the machine's opening, by what the call gave
-opening : (c : tie.After-open) (x : Opened) → c.«open».result ≡ x
-    → let a = (start c).args in
+opening : (c : tie.After-open-opened) (x : Opened) → c.open-opened.result ≡ x
+    → let a = c.args in
     opening_of x a.rows.now a.list.now a.background.now ≡ opening_from a.n a.used a.rows.now a.list.now a.background.now
-opening c x e = rw e at c.«open».ensures
+opening c x e = rw e at c.open-opened.ensures
 
-returns : tie.Need-returns
+returns : tie.Need-returns-in-Open
 returns c =
-    let d = c.before.before in
-    let e = d.before.before in
-    let a = (start e).args in
-    let is = opening e _ d.opened.given.1 in
-    let leaves : Opening → Type 0 = OpeningLeaves a.session d.opened.given.0.0 a.rows.now a.list.now a.background.now in
-    record { opens = record { answer = c.in_words_lem.ensures ∙ ap code_of_opening is; record_left = subst leaves is refl }; change = ap is_opened is }
+    let a = c.args in
+    let is = opening c.before.before _ c.in-Open.is in
+    let leaves : Opening → Type 0 = OpeningLeaves a.session c.in-Open.made a.rows.now a.list.now a.background.now in
+    record { opens = record { answer = c.in_words.ensures ∙ ap code_of_opening is; record_left = subst leaves is refl }; change = ap is_opened is }
 
-returns-2 : tie.Need-returns-2
+returns-2 : tie.Need-returns-in-Refused
 returns-2 c =
-    let d = c.before.before in
-    let e = d.before.before in
-    let a = (start e).args in
-    let is = opening e _ d.opened2.given.1 in
+    let a = c.args in
+    let is = opening c.before.before _ c.in-Refused.is in
     let leaves : Opening → Type 0 = OpeningLeaves a.session a.session a.rows.now a.list.now a.background.now in
-    record { opens = record { answer = c.answer-of-refusal.ensures ∙ ap code_of_opening is; record_left = subst leaves is refl }; change = ap is_opened is }
+    record { opens = record { answer = c.answer_of_refusal.ensures ∙ ap code_of_opening is; record_left = subst leaves is refl }; change = ap is_opened is }
 
 pub open_spec : {M : Type 1} → statement M
 open_spec =
     tie.close
-    (tie.spec (λ c κs. search rules) (λ c. search rules) (λ c κs. search rules) (λ c. search rules) (λ c κs. search rules) returns returns-2)
+    (tie.spec
+    (λ c κs. search rules)
+    (λ c. search rules)
+    (λ c κs. search rules)
+    (λ c. search rules)
+    (λ c κs. search rules)
+    returns
+    returns-2)

@@ -6,7 +6,7 @@ use Rattle.coded_queries.proofs.follows.Statement.{statement}
 use Rattle.coded_queries.proofs.follows.Tie as tie
 
 returns : tie.Need-returns
-returns c = said code_of c.answer-of-following.ensures c.before.follows.ensures
+returns c = said code_of c.answer_of_following.ensures c.follows-answer.ensures
 
-pub follows-spec : {M : Type 1} → statement M
-follows-spec = tie.close (tie.spec (λ c κs. search rules) (λ c κs. search rules) returns)
+pub follows_spec : {M : Type 1} → statement M
+follows_spec = tie.close (tie.spec (λ c κs. search rules) (λ c κs. search rules) returns)

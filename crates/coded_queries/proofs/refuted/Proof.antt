@@ -6,7 +6,7 @@ use Rattle.coded_queries.proofs.refuted.Statement.{statement}
 use Rattle.coded_queries.proofs.refuted.Tie as tie
 
 returns : tie.Need-returns
-returns c = said code_of c.answer-of-refuting.ensures c.before.refuted.ensures
+returns c = said code_of c.answer_of_refuting.ensures c.refuted-answer.ensures
 
-pub refuted-spec : {M : Type 1} → statement M
-refuted-spec = tie.close (tie.spec (λ c κs. search rules) (λ c κs. search rules) returns)
+pub refuted_spec : {M : Type 1} → statement M
+refuted_spec = tie.close (tie.spec (λ c κs. search rules) (λ c κs. search rules) returns)

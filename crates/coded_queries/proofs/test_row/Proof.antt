@@ -6,7 +6,7 @@ use Rattle.coded_queries.proofs.test_row.Statement.{statement}
 use Rattle.coded_queries.proofs.test_row.Tie as tie
 
 returns : tie.Need-returns
-returns c = said code_of c.answer-of-testing.ensures c.before.test-row.ensures
+returns c = said code_of c.answer_of_testing.ensures c.test_row-answer.ensures
 
-pub test-row-spec : {M : Type 1} → statement M
-test-row-spec = tie.close (tie.spec (λ c κs. search rules) (λ c κs. search rules) returns)
+pub test_row_spec : {M : Type 1} → statement M
+test_row_spec = tie.close (tie.spec (λ c κs. search rules) (λ c κs. search rules) returns)

@@ -24,7 +24,7 @@ use Rattle.table_bytes.specs.Bytes.{is_yes, is_no, is_unknown, is_known, is_mark
 use Rattle.line_bytes.specs.Everywhere.{everywhere}
 use Rattle.table_counts.specs.Counts.{decimal_from, is_count, count_of}
 use Rattle.line_bytes.proofs.Everywhere.Laws.{everywhere-cons}
-use Rattle.table_layout.proofs.Layout.Passed.{table-marks}
+use Rattle.table_layout.proofs.OfLayout.Passed.{table-marks}
 use Rattle.table_rows.proofs.Rows.Laws.{bit-lt}
 use Rattle.complete_tables.specs.Complete.{complete_from, complete_of, opened_complete}
 use Rattle.line_faults.proofs.Faults.Laws.{marks_fine}

@@ -13,7 +13,7 @@ use Rattle.table_kinds.specs.declared.Kind.TheVariants.{Marks}
 use Rattle.table_layout.specs.declared.Opened.TheVariants.{Refused}
 use Rattle.line_walk.specs.Walk.{walk}
 use Rattle.table_walk.specs.Walk.{Passes}
-use Rattle.table_layout.proofs.Layout.Passed.{table-marks}
+use Rattle.table_layout.proofs.OfLayout.Passed.{table-marks}
 use Rattle.table_walk.proofs.Walk.Passed.{NextLine, next-line}
 use Rattle.complete_tables.specs.Complete.{complete_from}
 use Rattle.complete_tables.proofs.Complete.Laws.{complete-on, complete-stop}
@@ -50,10 +50,10 @@ loop-holds : tie.Need-loop-i-init invariant-loop decreases-loop
 loop-holds c = (omega arith, rw sub-zero (table-marks _ _ c.requires).2, rw sub-zero)
 
 add-end : tie.Need-overflow_add-end invariant-loop decreases-loop
-add-end c = omega (arith, (ahead c).ranges)
+add-end c = omega (arith, (ahead c).fits)
 
 part-all-pass-end : tie.Need-slice_bounds-all_pass-end invariant-loop decreases-loop
-part-all-pass-end c = (ahead c).ranges
+part-all-pass-end c = (ahead c).fits
 
 returns : tie.Need-returns-then-not-all_pass invariant-loop decreases-loop
 returns c =

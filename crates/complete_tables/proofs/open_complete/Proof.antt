@@ -7,16 +7,16 @@ use Rattle.complete_tables.proofs.open_complete.Tie as tie
 
 complete-from-requires : tie.Need-complete_from-requires
 complete-from-requires c κs =
-    sym c.before.«open».ensures ∙ c.in-Found.is
+    sym c.open-opened.ensures ∙ c.in-Found.is
 
 returns : tie.Need-returns-in-Found
 returns c =
     c.complete_from.ensures
-    ∙ ap (complete_of c.args.file.now) (sym c.in-Found.is ∙ c.before.before.«open».ensures)
+    ∙ ap (complete_of c.args.file.now) (sym c.in-Found.is ∙ c.open-opened.ensures)
 
 returns-2 : tie.Need-returns-in-Refused
 returns-2 c =
-    ap (complete_of c.args.file.now) (sym c.in-Refused.is ∙ c.before.«open».ensures)
+    ap (complete_of c.args.file.now) (sym c.in-Refused.is ∙ c.open-opened.ensures)
 
 pub open_complete_spec : {M : Type 1} → statement M
 open_complete_spec =

@@ -7,11 +7,11 @@ use Rattle.found_layout.proofs.is_found.Tie as tie
 
 returns : tie.Need-returns-in-Found
 returns c =
-    c.same_layout.ensures ∙ ap (λ x. found_in x c.args.layout) (sym c.in-Found.is ∙ c.before.before.«open».ensures)
+    c.same_layout.ensures ∙ ap (λ x. found_in x c.args.layout) (sym c.in-Found.is ∙ c.open-opened.ensures)
 
 returns-2 : tie.Need-returns-in-Refused
 returns-2 c =
-    ap (λ x. found_in x c.args.layout) (sym c.in-Refused.is ∙ c.before.«open».ensures)
+    ap (λ x. found_in x c.args.layout) (sym c.in-Refused.is ∙ c.open-opened.ensures)
 
 pub is_found_spec : {M : Type 1} → statement M
 is_found_spec =

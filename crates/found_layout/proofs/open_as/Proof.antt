@@ -8,11 +8,11 @@ use Rattle.found_layout.proofs.open_as.Tie as tie
 returns : tie.Need-returns-in-Found
 returns c =
     c.keep_same.ensures
-    ∙ ap (opened_as c.args.layout) (sym c.in-Found.is ∙ c.before.before.«open».ensures)
+    ∙ ap (opened_as c.args.layout) (sym c.in-Found.is ∙ c.open-opened.ensures)
 
 returns-2 : tie.Need-returns-in-Refused
 returns-2 c =
-    ap (opened_as c.args.layout) (sym c.in-Refused.is ∙ c.before.«open».ensures)
+    ap (opened_as c.args.layout) (sym c.in-Refused.is ∙ c.open-opened.ensures)
 
 pub open_as_spec : {M : Type 1} → statement M
 open_as_spec = tie.close (tie.spec

@@ -12,8 +12,8 @@ use Rattle.session.specs.Refusals.{refusal}
 use Rattle.line_walk.specs.declared.Walk.TheVariants.{Failed, At}
 use Rattle.line_faults.specs.Faults.{fault}
 use Rattle.line_walk.specs.Walk.{line_fault, walk}
-use Rattle.table_kinds.proofs.Kinds.Laws.{absent-some}
-use Rattle.line_walk.proofs.Walk.Laws.{fault-there, fault-missing, walk-passed, walk-failed}
+use Rattle.table_kinds.proofs.LineKinds.Laws.{absent-some}
+use Rattle.line_walk.proofs.OfWalk.Laws.{fault-there, fault-missing, walk-passed, walk-failed}
 use Rattle.line_walk.proofs.walk_line.Statement.{statement}
 use Rattle.line_walk.proofs.walk_line.Tie as tie
 

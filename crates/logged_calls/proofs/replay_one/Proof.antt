@@ -1,6 +1,6 @@
 -- Each kind makes the call of its kind, whose contract is that of the log's call; an unknown kind does nothing.
 use borrow.Author.Rules.{rules}
-use Rattle.logged_calls.proofs.Kinds.Laws.{call-unknown, kind-step, kind-yes, kind-no, kind-follows, kind-refuted, kind-test, kind-filing, kind-filling, of-kind, of-unknown}
+use Rattle.logged_calls.proofs.CallKinds.Laws.{call-unknown, kind-step, kind-yes, kind-no, kind-follows, kind-refuted, kind-test, kind-filing, kind-filling, of-kind, of-unknown}
 use Rattle.logged_calls.proofs.replay_one.Statement.{statement}
 use Rattle.logged_calls.proofs.replay_one.Tie as tie
 

@@ -24,7 +24,7 @@ use Rattle.context.specs.Objects.{Object, objects_of}
 use Rattle.table_walk.proofs.Walk.Passed.{bytes-part, after-part, part-whole}
 use Rattle.table_rows.specs.Rows.{word_of, row_of, rows_from}
 use Rattle.mark_reading.specs.Marks.{flat, reading_from, reading_of, reading, reading_as, words_of_rows, words_read, complete_reading, complete_words_read}
-use Rattle.table_layout.proofs.Layout.Passed.{table-objects}
+use Rattle.table_layout.proofs.OfLayout.Passed.{table-objects}
 use Rattle.complete_tables.specs.Complete.{complete_of}
 use Rattle.found_layout.proofs.Found.Laws.{as-other, as-found}
 use Rattle.complete_tables.proofs.Complete.Laws.{complete-layout}

@@ -13,30 +13,32 @@ use Rattle.name_spans.proofs.Spans.Laws.{span-unfound, span-past, span-there}
 use Rattle.name_spans.proofs.span_of.Statement.{statement}
 use Rattle.name_spans.proofs.span_of.Tie as tie
 
-abbrev start : tie.After-is-found → tie.Start
-start c = c.before.before
-
 -- the layout is found
-found : (c : tie.Else1) → let a = (start c.before).args in finds a.file.now a.layout ≡ true
-found c = sym c.before.is_found.ensures ∙ not-false _ c.if1.false
+found : (c : tie.Else-not-is_found) → let a = c.args in finds a.file.now a.layout ≡ true
+found c = sym c.is_found.ensures ∙ c.if-not-is_found.false
 
-returns : tie.Need-returns
+returns : tie.Need-returns-then-not-is_found
 returns c =
-    let a = (start c.before).args in
-    sym (span-unfound _ a.count a.start a.number a.file.now (sym c.before.is_found.ensures ∙ not-true _ c.if1.true))
+    let a = c.args in
+    sym (span-unfound _ a.count a.start a.number a.file.now (sym c.is_found.ensures ∙ c.if-not-is_found.true))
 
-returns-2 : tie.Need-returns-2
+returns-2 : tie.Need-returns-then-count-number
 returns-2 c =
-    let a = (start c.before.before).args in
+    let a = c.args in
     sym (span-past (finds a.file.now a.layout) a.count a.start a.number a.file.now (omega arith))
 
-returns-3 : tie.Need-returns-3
+returns-3 : tie.Need-returns
 returns-3 c =
-    let d = c.before.before in
-    let a = (start d.before.before).args in
-    ap (λ (l : Line). span c.before.skip.result l.size) c.line_at.ensures
-    ∙ ap (λ at. span at (line_of (drop at a.file.now)).size) c.before.skip.ensures
-    ∙ sym (span-there _ a.count a.start a.number a.file.now (found d.before) (omega arith))
+    let a = c.args in
+    ap (λ (l : Line). span c.skip-at.result l.size) c.line_at-line.ensures
+    ∙ ap (λ at. span at (line_of (drop at a.file.now)).size) c.skip-at.ensures
+    ∙ sym (span-there _ a.count a.start a.number a.file.now (found c.before.before.before) (omega arith))
 
-pub span-of-spec : {M : Type 1} → statement M
-span-of-spec = tie.close (tie.spec (λ c κs. search rules) returns returns-2 (λ c κs. search rules) (λ c κs. search rules) returns-3)
+pub span_of_spec : {M : Type 1} → statement M
+span_of_spec = tie.close (tie.spec
+    (λ c κs. search rules)
+    returns
+    returns-2
+    (λ c κs. search rules)
+    (λ c κs. search rules)
+    returns-3)

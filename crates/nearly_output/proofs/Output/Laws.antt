@@ -9,8 +9,8 @@ use Rattle.session.specs.Refusals.{refusal}
 use Rattle.context.specs.Objects.{objects_of}
 use Rattle.text.specs.Page.{page, text}
 use Rattle.table_layout.specs.Layout.{most_bytes, input_most, opened_of}
-use Rattle.table_layout.proofs.Layout.Laws.{opened-long, from-first-bytes}
-use Rattle.table_layout.proofs.Layout.Passed.{table-objects, table-attributes}
+use Rattle.table_layout.proofs.OfLayout.Laws.{opened-long, from-first-bytes}
+use Rattle.table_layout.proofs.OfLayout.Passed.{table-objects, table-attributes}
 use Rattle.table_layout.specs.declared.Layout.{Layout}
 use Rattle.table_layout.specs.declared.Opened.{Opened}
 use Rattle.table_layout.specs.declared.Opened.TheVariants.{Found, Refused}

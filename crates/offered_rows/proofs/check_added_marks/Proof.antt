@@ -10,11 +10,8 @@ use Rattle.machine.proofs.Checks.Laws.{failing-nothing, failing-here, failing-la
 use Rattle.offered_rows.proofs.check_added_marks.Statement.{statement}
 use Rattle.offered_rows.proofs.check_added_marks.Tie as tie
 
-abbrev begun : tie.After-bad-row → tie.Start
-begun c = c.before.before.before
-
 abbrev known : tie.Start → Object
-known c = object c.args.known-yes c.args.known-no
+known c = object c.args.known_yes c.args.known_no
 
 abbrev offered : tie.Start → Object
 offered c = object c.args.yes c.args.no
@@ -31,44 +28,33 @@ eleven c = let a = c.args in check 11 (contradicts (in_force a.background.now a.
 abbrev all : tie.Start → List Check
 all c = nine c ∷ thirty_three c ∷ eleven c ∷ []
 
-returns : tie.Need-returns
+returns : tie.Need-returns-then-bad_row
 returns c =
-    let d = c.before in
-    c.refused.ensures ∙ sym (failing-here (nine (begun d.before)) _ (sym d.before.bad-row.ensures ∙ d.if1.true))
+    c.refused.ensures ∙ sym (failing-here (nine c.before.before.before.before.before) _ (sym c.bad_row.ensures ∙ c.if-bad_row.true))
 
--- check 9 passes, and 33 and 11 decide
-abbrev start_nine : tie.Else1 → tie.Start
-start_nine c = begun c.before
+after-nine : (c : tie.Else-bad_row) → first_failing (all c.before.before.before.before) ≡ first_failing (thirty_three c.before.before.before.before ∷ eleven c.before.before.before.before ∷ [])
+after-nine c = failing-later _ _ (sym c.bad_row.ensures ∙ c.if-bad_row.false)
 
-after-nine : (c : tie.Else1) → first_failing (all (start_nine c)) ≡ first_failing (thirty_three (start_nine c) ∷ eleven (start_nine c) ∷ [])
-after-nine c = failing-later _ _ (sym c.before.bad-row.ensures ∙ c.if1.false)
-
-returns-2 : tie.Need-returns-2
+returns-2 : tie.Need-returns-then-reverses_mark
 returns-2 c =
-    let d = c.before in
-    c.refused2.ensures ∙ sym (after-nine d.before.before ∙ failing-here _ _ (sym d.before.reverses-mark.ensures ∙ d.if2.true))
+    c.refused-then-reverses_mark.ensures ∙ sym (after-nine c.before.before.before ∙ failing-here _ _ (sym c.reverses_mark.ensures ∙ c.if-reverses_mark.true))
 
--- check 33 passes, and 11 decides
-abbrev start_second : tie.Else2 → tie.Start
-start_second c = start_nine c.before.before
-
-after-second : (c : tie.Else2) → first_failing (all (start_second c)) ≡ first_failing (eleven (start_second c) ∷ [])
-after-second c = after-nine c.before.before ∙ failing-later _ _ (sym c.before.reverses-mark.ensures ∙ c.if2.false)
+after-second : (c : tie.Else-reverses_mark) → first_failing (all c.before.before.before.before.before.before) ≡ first_failing (eleven c.before.before.before.before.before.before ∷ [])
+after-second c = after-nine c.before.before ∙ failing-later _ _ (sym c.reverses_mark.ensures ∙ c.if-reverses_mark.false)
 
 -- the test of check 11
-contradicting : (c : tie.After-row-contradicts) → (eleven (start_second c.before)).fails ≡ c.row-contradicts.result
-contradicting c = sym c.row-contradicts.ensures
+contradicting : (c : tie.After-row_contradicts) → (eleven c.before.before.before.before.before.before.before).fails ≡ c.row_contradicts.result
+contradicting c = sym c.row_contradicts.ensures
 
-returns-3 : tie.Need-returns-3
+returns-3 : tie.Need-returns-then-row_contradicts
 returns-3 c =
-    let d = c.before in
-    c.refused3.ensures ∙ sym (after-second d.before.before ∙ failing-here _ _ (contradicting d.before ∙ d.if3.true))
+    c.refused-then-row_contradicts.ensures ∙ sym (after-second c.before.before.before ∙ failing-here _ _ (contradicting c.before.before ∙ c.if-row_contradicts.true))
 
-returns-4 : tie.Need-returns-4
-returns-4 c = sym (after-second c.before.before ∙ failing-later _ _ (contradicting c.before ∙ c.if3.false) ∙ failing-nothing)
+returns-4 : tie.Need-returns
+returns-4 c = sym (after-second c.before.before ∙ failing-later _ _ (contradicting c.before ∙ c.if-row_contradicts.false) ∙ failing-nothing)
 
-pub check-added-marks-spec : {M : Type 1} → statement M
-check-added-marks-spec =
+pub check_added_marks_spec : {M : Type 1} → statement M
+check_added_marks_spec =
     tie.close
     (tie.spec
     (λ c κs. search rules)

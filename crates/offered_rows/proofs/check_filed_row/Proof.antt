@@ -9,9 +9,6 @@ use Rattle.machine.proofs.Checks.Laws.{failing-nothing, failing-here, failing-la
 use Rattle.offered_rows.proofs.check_filed_row.Statement.{statement}
 use Rattle.offered_rows.proofs.check_filed_row.Tie as tie
 
-abbrev begun : tie.After-bad-row → tie.Start
-begun c = c.before.before.before
-
 abbrev offered : tie.Start → Object
 offered c = object c.args.yes c.args.no
 
@@ -21,33 +18,26 @@ nine c = check 9 (bad_row c.args.n (offered c)) 0
 abbrev eleven : tie.Start → Check
 eleven c = let a = c.args in check 11 (contradicts (in_force a.background.now a.list.now a.rules) (offered c)) 0
 
-returns : tie.Need-returns
+returns : tie.Need-returns-then-bad_row
 returns c =
-    let d = c.before in
-    let s = begun d.before in
-    c.refused.ensures ∙ sym (failing-here (nine s) (eleven s ∷ []) (sym d.before.bad-row.ensures ∙ d.if1.true))
+    c.refused.ensures ∙ sym (failing-here (nine c.before.before.before.before.before) (eleven c.before.before.before.before.before ∷ []) (sym c.bad_row.ensures ∙ c.if-bad_row.true))
 
--- check 9 passes, and check 11 decides
-abbrev start_nine : tie.Else1 → tie.Start
-start_nine c = begun c.before
-
-after-nine : (c : tie.Else1) → first_failing (nine (start_nine c) ∷ eleven (start_nine c) ∷ []) ≡ first_failing (eleven (start_nine c) ∷ [])
-after-nine c = failing-later _ _ (sym c.before.bad-row.ensures ∙ c.if1.false)
+after-nine : (c : tie.Else-bad_row) → first_failing (nine c.before.before.before.before ∷ eleven c.before.before.before.before ∷ []) ≡ first_failing (eleven c.before.before.before.before ∷ [])
+after-nine c = failing-later _ _ (sym c.bad_row.ensures ∙ c.if-bad_row.false)
 
 -- the test of check 11
-contradicting : (c : tie.After-row-contradicts) → (eleven (start_nine c.before)).fails ≡ c.row-contradicts.result
-contradicting c = sym c.row-contradicts.ensures
+contradicting : (c : tie.After-row_contradicts) → (eleven c.before.before.before.before.before).fails ≡ c.row_contradicts.result
+contradicting c = sym c.row_contradicts.ensures
 
-returns-2 : tie.Need-returns-2
+returns-2 : tie.Need-returns-then-row_contradicts
 returns-2 c =
-    let d = c.before in
-    c.refused2.ensures ∙ sym (after-nine d.before.before ∙ failing-here _ _ (contradicting d.before ∙ d.if2.true))
+    c.refused-then-row_contradicts.ensures ∙ sym (after-nine c.before.before.before ∙ failing-here _ _ (contradicting c.before.before ∙ c.if-row_contradicts.true))
 
-returns-3 : tie.Need-returns-3
-returns-3 c = sym (after-nine c.before.before ∙ failing-later _ _ (contradicting c.before ∙ c.if2.false) ∙ failing-nothing)
+returns-3 : tie.Need-returns
+returns-3 c = sym (after-nine c.before.before ∙ failing-later _ _ (contradicting c.before ∙ c.if-row_contradicts.false) ∙ failing-nothing)
 
-pub check-filed-row-spec : {M : Type 1} → statement M
-check-filed-row-spec =
+pub check_filed_row_spec : {M : Type 1} → statement M
+check_filed_row_spec =
     tie.close
     (tie.spec
     (λ c κs. search rules)

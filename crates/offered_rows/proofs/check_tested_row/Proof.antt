@@ -10,9 +10,6 @@ use Rattle.machine.proofs.Checks.Laws.{failing-nothing, failing-here, failing-la
 use Rattle.offered_rows.proofs.check_tested_row.Statement.{statement}
 use Rattle.offered_rows.proofs.check_tested_row.Tie as tie
 
-abbrev begun : tie.After-bad-row → tie.Start
-begun c = c.before.before.before
-
 abbrev offered : tie.Start → Object
 offered c = object c.args.yes c.args.no
 
@@ -24,38 +21,30 @@ ten c =
     let a = c.args in
     check 10 (not (refutes (in_force a.background.now a.list.now a.rules) (offered c) (implication a.premise a.conclusion))) 0
 
-returns : tie.Need-returns
+returns : tie.Need-returns-then-bad_row
 returns c =
-    let d = c.before in
-    let s = begun d.before in
-    c.refused.ensures ∙ sym (failing-here (nine s) (ten s ∷ []) (sym d.before.bad-row.ensures ∙ d.if1.true))
+    c.refused.ensures ∙ sym (failing-here (nine c.before.before.before.before.before) (ten c.before.before.before.before.before ∷ []) (sym c.bad_row.ensures ∙ c.if-bad_row.true))
 
--- check 9 passes, and check 10 decides
-abbrev start_nine : tie.Else1 → tie.Start
-start_nine c = begun c.before
-
-after-nine : (c : tie.Else1) → first_failing (nine (start_nine c) ∷ ten (start_nine c) ∷ []) ≡ first_failing (ten (start_nine c) ∷ [])
-after-nine c = failing-later _ _ (sym c.before.bad-row.ensures ∙ c.if1.false)
+after-nine : (c : tie.Else-bad_row) → first_failing (nine c.before.before.before.before ∷ ten c.before.before.before.before ∷ []) ≡ first_failing (ten c.before.before.before.before ∷ [])
+after-nine c = failing-later _ _ (sym c.bad_row.ensures ∙ c.if-bad_row.false)
 
 -- the test of check 10
-refuting : (c : tie.After-refuted-by) → (ten (start_nine c.before)).fails ≡ not c.refuted-by.result
+refuting : (c : tie.After-refuted_by) → (ten c.before.before.before.before.before).fails ≡ not c.refuted_by.result
 refuting c =
-    let s = start_nine c.before in
-    let a = s.args in
-    let e : c.refuted-by.result ≡ refutes (in_force a.background.now a.list.now a.rules) (offered s) (implication a.premise a.conclusion) =
-    c.refuted-by.ensures in
+    let a = c.args in
+    let e : c.refuted_by.result ≡ refutes (in_force a.background.now a.list.now a.rules) (offered c.before.before.before.before.before) (implication a.premise a.conclusion) =
+    c.refuted_by.ensures in
     ap not (sym e)
 
-returns-2 : tie.Need-returns-2
+returns-2 : tie.Need-returns-then-not-refuted_by
 returns-2 c =
-    let d = c.before in
-    c.refused2.ensures ∙ sym (after-nine d.before.before ∙ failing-here _ _ (refuting d.before ∙ d.if2.true))
+    c.refused-then-not-refuted_by.ensures ∙ sym (after-nine c.before.before.before ∙ failing-here _ _ (refuting c.before.before ∙ ap not c.if-not-refuted_by.true))
 
-returns-3 : tie.Need-returns-3
-returns-3 c = sym (after-nine c.before.before ∙ failing-later _ _ (refuting c.before ∙ c.if2.false) ∙ failing-nothing)
+returns-3 : tie.Need-returns
+returns-3 c = sym (after-nine c.before.before ∙ failing-later _ _ (refuting c.before ∙ ap not c.if-not-refuted_by.false) ∙ failing-nothing)
 
-pub check-tested-row-spec : {M : Type 1} → statement M
-check-tested-row-spec =
+pub check_tested_row_spec : {M : Type 1} → statement M
+check_tested_row_spec =
     tie.close
     (tie.spec
     (λ c κs. search rules)

@@ -8,14 +8,12 @@ use Rattle.refusal_reports.proofs.put_explanation.Tie as tie
 
 returns : tie.Need-returns
 returns c =
-    let d = c.before.before in
-    let o = d.before.before in
-    let a = o.before.before.before.args in
-    d.put-why.ensures
-    ∙ ap (λ f. text (page a.out.now a.at) (explanation_of a.file.now f)) o.open-complete.ensures
+    let a = c.args in
+    c.put_why.ensures
+    ∙ ap (λ f. text (page a.out.now a.at) (explanation_of a.file.now f)) c.open_complete-opened.ensures
 
-pub put-explanation-spec : {M : Type 1} → statement M
-put-explanation-spec =
+pub put_explanation_spec : {M : Type 1} → statement M
+put_explanation_spec =
     tie.close
     (tie.spec
     (λ c κs. search rules)

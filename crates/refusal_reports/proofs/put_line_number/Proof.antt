@@ -8,20 +8,14 @@ use Rattle.refusal_reports.proofs.put_line_number.Tie as tie
 returns : tie.Need-returns
 unfolding bytes
 returns c =
-    let third = c.before.before in
-    let begun = third.before.before.before in
-    let second = begun.before.before in
-    let first = second.before.before.before.before in
-    text-on _ _ _ first.put-bytes.ensures (text-on _ _ _ second.put-number.ensures third.put-bytes2.ensures)
+    text-on _ _ _ c.put_bytes-named.ensures (text-on _ _ _ c.put_number-numbered.ensures c.put_bytes.ensures)
 
-pub put-line-number-spec : {M : Type 1} → statement M
-put-line-number-spec =
+pub put_line_number_spec : {M : Type 1} → statement M
+put_line_number_spec =
     tie.close
     (tie.spec
-    (λ c. search rules)
     (λ c κs. search rules)
     (λ c κs. search rules)
-    (λ c. search rules)
     (λ c κs. search rules)
     (λ c. search rules)
     returns)

@@ -10,18 +10,13 @@ use Rattle.refusal_reports.proofs.put_report.Tie as tie
 returns : tie.Need-returns
 unfolding report
 returns c =
-    let fourth = c.before.before in
-    let third = fourth.before.before.before.before in
-    let second = third.before.before.before.before in
-    let first = second.before.before.before.before in
-    let line = first.before in
-    let a = line.before.before.before.before.args in
+    let a = c.args in
     let p = page a.out.now a.at in
-    text-on p _ _ (first.put-line-number.ensures ∙ ap (λ k. text p (line_text k)) line.line-number.ensures) (
-    text-on _ _ _ second.put-expectation.ensures (text-on _ _ _ third.put_byte.ensures fourth.put-sentence-line.ensures))
+    text-on p _ _ (c.put_line_number-numbered.ensures ∙ ap (λ k. text p (line_text k)) c.line_number.ensures) (
+    text-on _ _ _ c.put_expectation-expected.ensures (text-on _ _ _ c.put_byte-ended.ensures c.put_sentence_line.ensures))
 
-pub put-report-spec : {M : Type 1} → statement M
-put-report-spec =
+pub put_report_spec : {M : Type 1} → statement M
+put_report_spec =
     tie.close
     (tie.spec
     (λ c κs. search rules)

@@ -6,9 +6,11 @@ use Rattle.refusal_reports.proofs.put_sentence_line.Tie as tie
 
 returns : tie.Need-returns
 returns c =
-    let second = c.before.before in
-    let first = second.before.before.before.before in
-    text-on _ _ _ first.put-sentence.ensures second.put_byte.ensures
+    text-on _ _ _ c.put_sentence-said.ensures c.put_byte.ensures
 
-pub put-sentence-line-spec : {M : Type 1} → statement M
-put-sentence-line-spec = tie.close (tie.spec (λ c κs. search rules) (λ c κs. search rules) (λ c. search rules) returns)
+pub put_sentence_line_spec : {M : Type 1} → statement M
+put_sentence_line_spec = tie.close (tie.spec
+    (λ c κs. search rules)
+    (λ c κs. search rules)
+    (λ c. search rules)
+    returns)

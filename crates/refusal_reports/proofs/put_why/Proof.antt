@@ -6,18 +6,17 @@ use Rattle.refusal_reports.specs.Reports.{explanation_of}
 use Rattle.refusal_reports.proofs.put_why.Statement.{statement}
 use Rattle.refusal_reports.proofs.put_why.Tie as tie
 
-returns : tie.Need-returns
+returns : tie.Need-returns-in-Found
 returns c =
-    let a = c.before.before.before.before.args in
-    text-end _ _ (ap (explanation_of a.file.now) c.enum_told.given.1)
+    let a = c.args in
+    text-end _ _ (ap (explanation_of a.file.now) c.in-Found.is)
 
-returns-2 : tie.Need-returns-2
+returns-2 : tie.Need-returns-in-Refused
 returns-2 c =
-    let d = c.before.before in
-    rw d.before.before.before.opened.given.1 d.put-report.ensures
+    rw c.in-Refused.is c.put_report.ensures
 
-pub put-why-spec : {M : Type 1} → statement M
-put-why-spec =
+pub put_why_spec : {M : Type 1} → statement M
+put_why_spec =
     tie.close
     (tie.spec
     (λ c. search rules)

@@ -73,7 +73,7 @@ loop-again c =
     let l = c.loop-left in
     let t = at c.before.before.before in
     let i = t.0 in
-    let below : i < word_attributes = member-lt l.left i word_attributes (omega (arith, l.invariant.0, c.fits.among.fits)) t.1 in
+    let below : i < word_attributes = member-lt l.left i word_attributes (omega (arith, l.invariant.0, c.ranges.among.fits)) t.1 in
     let e : c.difference-lacked.result ≡ without (2 ^ i) (spared (force c.before.before.before.before.before.before) (row c.before.before.before.before.before.before) (2 ^ i)) =
     c.difference-lacked.ensures ∙ ap₂ without t.3 (spared-after c.before.before) in (
       omega (arith, l.invariant.0, left_after c, without-less l.left i (spared (force c.before.before.before.before.before.before) (row c.before.before.before.before.before.before) (2 ^ i)) t.1),

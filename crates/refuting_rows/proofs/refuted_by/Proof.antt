@@ -12,12 +12,12 @@ use Rattle.refuting_rows.proofs.refuted_by.Tie as tie
 
 returns : tie.Need-returns
 returns c =
-    let a = c.before.before.before.args in
+    let a = c.args in
     let rs = in_force a.background.now a.list.now a.rules in
     let o = object a.yes a.no in
     let r = implication a.premise a.conclusion in
-    let e : c.refuted-part.result ≡ refuted_part rs o r = c.refuted-part.ensures in
+    let e : c.refuted_part.result ≡ refuted_part rs o r = c.refuted_part.ensures in
     ap (λ x. not (eqb x 0)) e ∙ sym (part-refutes rs o r)
 
-pub refuted-by-spec : {M : Type 1} → statement M
-refuted-by-spec = tie.close (tie.spec (λ c κs. search rules) returns)
+pub refuted_by_spec : {M : Type 1} → statement M
+refuted_by_spec = tie.close (tie.spec (λ c κs. search rules) returns)

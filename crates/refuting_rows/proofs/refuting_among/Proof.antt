@@ -18,59 +18,52 @@ use Rattle.refuting_rows.proofs.refuting_among.Tie as tie
 abbrev test : List ℕ → List ℕ → ℕ → ℕ → ℕ → Object → Bool
 test background list rules premise conclusion o = refutes (in_force background list rules) o (implication premise conclusion)
 
-abbrev invariant-loop : tie.invariant-loop
+abbrev invariant-loop : tie.invariant-loop-place
 invariant-loop rows count background list rules premise conclusion place₀ place =
     (place ≤ count)
     × (place + lowest (test background list rules premise conclusion) (objects_of (count - place) (drop (place * 2) rows))
     ≡ lowest (test background list rules premise conclusion) (objects_of count rows))
 
-abbrev decreases-loop : tie.decreases-loop
+abbrev decreases-loop : tie.decreases-loop-place
 decreases-loop rows count background list rules premise conclusion place₀ place = count - place
 
--- the loop and the arguments, seen from behind the test of an object
-abbrev at : tie.After-refuted-by invariant-loop decreases-loop → tie.At-loop invariant-loop decreases-loop
-at c = c.before.before.before.before
-
-abbrev start : tie.At-loop invariant-loop decreases-loop → tie.Start invariant-loop decreases-loop
-start c = let known = c.before.before in known.before.before
-
 -- the test of an object is what the call gives
-tested : (c : tie.After-refuted-by invariant-loop decreases-loop)
-    → let i = (at c).loop.place in
-    let a = (start (at c)).args in
+tested : (c : tie.After-refuted_by invariant-loop decreases-loop)
+    → let i = c.loop-place.place in
+    let a = c.args in
     test a.background.now a.list.now a.rules a.premise a.conclusion (object (get_or a.rows.now (i * 2) 0) (get_or a.rows.now (i * 2 + 1) 0))
-    ≡ c.refuted-by.result
-tested c = sym c.refuted-by.ensures
+    ≡ c.refuted_by.result
+tested c = sym c.refuted_by.ensures
 
-loop-holds : tie.Need-loop-init invariant-loop decreases-loop
+loop-holds : tie.Need-loop-place-init invariant-loop decreases-loop
 loop-holds c = (omega arith, rw sub-zero (omega arith))
 
-returns : tie.Need-returns invariant-loop decreases-loop
+returns : tie.Need-returns-then-refuted_by invariant-loop decreases-loop
 unfolding first_refuting
 returns c =
-    let l = (at c.before).loop in
-    let a = (start (at c.before)).args in
+    let l = c.loop-place in
+    let a = c.args in
     let h : l.place < a.count = omega arith in
-    omega (arith, l.inv.1, pair_found (test a.background.now a.list.now a.rules a.premise a.conclusion) object a.rows.now a.count l.place h (tested c.before ∙ c.if1.true))
+    omega (arith, l.invariant.1, pair_found (test a.background.now a.list.now a.rules a.premise a.conclusion) object a.rows.now a.count l.place h (tested c.before ∙ c.if-refuted_by.true))
 
-loop-again : tie.Need-loop-preserved invariant-loop decreases-loop
+loop-again : tie.Need-loop-place-preserved invariant-loop decreases-loop
 loop-again c =
-    let l = (at c.before).loop in
-    let a = (start (at c.before)).args in
+    let l = c.loop-place in
+    let a = c.args in
     let h : l.place < a.count = omega arith in (
       omega arith,
-      omega (arith, l.inv.1, pair-passed (test a.background.now a.list.now a.rules a.premise a.conclusion) object a.rows.now a.count l.place h (tested c.before ∙ c.if1.false)),
+      omega (arith, l.invariant.1, pair-passed (test a.background.now a.list.now a.rules a.premise a.conclusion) object a.rows.now a.count l.place h (tested c.before ∙ c.if-refuted_by.false)),
     )
 
-returns-2 : tie.Need-returns-2 invariant-loop decreases-loop
+returns-2 : tie.Need-returns invariant-loop decreases-loop
 unfolding first_refuting
 returns-2 c =
-    let l = c.before.loop in
-    let a = (start c.before).args in
+    let l = c.loop-place in
+    let a = c.args in
     omega (arith, l.invariant.1, pair-none (test a.background.now a.list.now a.rules a.premise a.conclusion) object a.rows.now a.count l.place (omega arith))
 
-pub refuting-among-spec : {M : Type 1} → statement M
-refuting-among-spec =
+pub refuting_among_spec : {M : Type 1} → statement M
+refuting_among_spec =
     tie.close
     (tie.spec
     invariant-loop

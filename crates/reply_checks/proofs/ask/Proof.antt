@@ -6,11 +6,15 @@ use Rattle.reply_checks.specs.Outcomes.{asking_after}
 use Rattle.reply_checks.proofs.ask.Statement.{statement}
 use Rattle.reply_checks.proofs.ask.Tie as tie
 
-returns : tie.Need-returns
-returns c = sym (ap (λ v. asking_after c.before.before.args.question (verdict_of v)) c.enum_told.given.1)
+returns : tie.Need-returns-in-Passed
+returns c = sym (ap (λ v. asking_after c.args.question (verdict_of v)) c.in-Passed.is)
 
-returns-2 : tie.Need-returns-2
-returns-2 c = sym (ap (λ v. asking_after c.before.before.before.args.question (verdict_of v)) c.before.verdict.given.1)
+returns-2 : tie.Need-returns-in-Refused
+returns-2 c = sym (ap (λ v. asking_after c.args.question (verdict_of v)) c.in-Refused.is)
 
-pub ask-spec : {M : Type 1} → statement M
-ask-spec = tie.close (tie.spec (λ c. search rules) (λ c. search rules) returns returns-2)
+pub ask_spec : {M : Type 1} → statement M
+ask_spec = tie.close (tie.spec
+    (λ c. search rules)
+    (λ c. search rules)
+    returns
+    returns-2)

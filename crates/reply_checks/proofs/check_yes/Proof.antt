@@ -18,52 +18,44 @@ use Rattle.reply_checks.proofs.Outcomes.Laws.{asking_from, yes-found}
 use Rattle.reply_checks.proofs.check_yes.Statement.{statement}
 use Rattle.reply_checks.proofs.check_yes.Tie as tie
 
-abbrev start : tie.After-find-standing → tie.Start
-start c = c.before.before.before.before
+abbrev state : tie.After-find_standing-standing → State
+state c = let a = c.args in state_of a.session a.rows.now a.list.now a.background.now
 
-abbrev state : tie.After-find-standing → State
-state c = let a = (start c).args in state_of a.session a.rows.now a.list.now a.background.now
-
-abbrev call : tie.After-find-standing → Call
+abbrev call : tie.After-find_standing-standing → Call
 call c = accept
 
 -- the checks behind check 8
-abbrev behind : tie.After-find-standing → List Check
+abbrev behind : tie.After-find_standing-standing → List Check
 behind c = drop 1 (yes_checks (state c))
 
 -- the reply, by what was found
-decided : (c : tie.After-find-standing) (x : Standing) → c.find-standing.result ≡ x → asking_from (behind c) x ≡ asking (state c) (call c)
-decided c x e = sym (yes-found (state c) ∙ ap (asking_from (behind c)) (sym c.find-standing.ensures ∙ e))
+decided : (c : tie.After-find_standing-standing) (x : Standing) → c.find_standing-standing.result ≡ x → asking_from (behind c) x ≡ asking (state c) (call c)
+decided c x e = sym (yes-found (state c) ∙ ap (asking_from (behind c)) (sym c.find_standing-standing.ensures ∙ e))
 
--- where a question was found
-abbrev opened : tie.After-known-told → tie.After-find-standing
-opened c = c.before.before.before
+question-found : (c : tie.In-Open)
+    → let s = state c.before in
+    (c.in-Open.question ≡ question_of s) × (first_failing (session_checks s []) ≡ none)
+question-found c = found-question (state c.before) _ (sym c.in-Open.is ∙ c.find_standing-standing.ensures)
 
-question-found : (c : tie.After-known-told)
-    → let s = state (opened c) in
-    (c.before.standing.given.0.0 ≡ question_of s) × (first_failing (session_checks s []) ≡ none)
-question-found c = found-question (state (opened c)) _ (sym c.before.standing.given.1 ∙ (opened c).find-standing.ensures)
-
-behind-decided : (c : tie.After-check-rule) → verdict_of c.check-rule.result ≡ first_failing (behind (opened c.before))
+behind-decided : (c : tie.After-check_rule) → verdict_of c.check_rule.result ≡ first_failing (behind c.before.before)
 behind-decided c =
-    c.check-rule.ensures (ap (λ (q : Question). implication q.premise q.conclusion) (question-found c.before).0)
+    c.check_rule.ensures (ap (λ (q : Question). implication q.premise q.conclusion) (question-found c.before).0)
 
-returns : tie.Need-returns
+returns : tie.Need-returns-in-Open
 returns c =
-    let e = c.before.before in
-    c.ask.ensures ∙ ap (asking_after e.before.standing.given.0.0) (behind-decided c.before) ∙ decided (opened e) _ e.before.standing.given.1
+    c.ask.ensures ∙ ap (asking_after c.in-Open.question) (behind-decided c.before) ∙ decided c.before.before.before _ c.in-Open.is
 
-returns-2 : tie.Need-returns-2
-returns-2 c = decided c.before.before.before _ c.before.standing2.given.1
+returns-2 : tie.Need-returns-in-Refused
+returns-2 c = decided c.before _ c.in-Refused.is
 
-returns-3 : tie.Need-returns-3
-returns-3 c = c.nothing-asked.ensures ∙ decided c.before.before.before _ c.before.enum_told.given.1
+returns-3 : tie.Need-returns-in-Full
+returns-3 c = c.nothing_asked.ensures ∙ decided c.before.before _ c.in-Full.is
 
-returns-4 : tie.Need-returns-4
-returns-4 c = c.nothing-asked2.ensures ∙ decided c.before.before.before _ c.before.enum-told2.given.1
+returns-4 : tie.Need-returns-in-Tight
+returns-4 c = c.nothing_asked-in-Tight.ensures ∙ decided c.before.before _ c.in-Tight.is
 
-pub check-yes-spec : {M : Type 1} → statement M
-check-yes-spec =
+pub check_yes_spec : {M : Type 1} → statement M
+check_yes_spec =
     tie.close
     (tie.spec
     (λ c κs. search rules)

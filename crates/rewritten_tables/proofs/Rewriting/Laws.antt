@@ -8,7 +8,7 @@ use Rattle.session.specs.declared.Refusal.{Refusal}
 use Rattle.table_layout.specs.declared.Layout.{Layout}
 use Rattle.table_layout.specs.declared.Opened.TheVariants.{Found, Refused as Unread}
 use Rattle.table_layout.specs.Layout.{opened_of}
-use Rattle.table_layout.proofs.Layout.Passed.{table-objects}
+use Rattle.table_layout.proofs.OfLayout.Passed.{table-objects}
 use Rattle.mark_reading.specs.Marks.{reading, words_read}
 use Rattle.mark_reading.proofs.Marks.Laws.{reading-all}
 use Rattle.table_writing.specs.declared.Written.{Written}

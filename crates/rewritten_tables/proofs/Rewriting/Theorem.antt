@@ -8,7 +8,7 @@ use Rattle.table_layout.specs.declared.Layout.{Layout}
 use Rattle.table_layout.specs.declared.Opened.{Opened}
 use Rattle.table_layout.specs.declared.Opened.TheVariants.{Found, Refused as Unread}
 use Rattle.table_layout.specs.Layout.{opened_of}
-use Rattle.table_layout.proofs.Layout.Passed.{starts-inside}
+use Rattle.table_layout.proofs.OfLayout.Passed.{starts-inside}
 use Rattle.table_writing.specs.declared.Written.{Written}
 use Rattle.table_writing.specs.declared.Written.TheVariants.{Bytes, Refused}
 use Rattle.written_tables.specs.Settled.{text_again, Settles}

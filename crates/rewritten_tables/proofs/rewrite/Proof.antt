@@ -4,7 +4,7 @@ use Prim.Native.Nat.{◌≤◌}
 use lib.ListN.{length}
 use borrow.Author.Rules.{rules}
 use Rattle.table_layout.specs.Layout.{opened_of}
-use Rattle.table_layout.proofs.Layout.Passed.{starts-inside}
+use Rattle.table_layout.proofs.OfLayout.Passed.{starts-inside}
 use Rattle.rewritten_tables.proofs.Rewriting.Laws.{read_opened, rewrites-found, rewrites-refused}
 use Rattle.rewritten_tables.proofs.rewrite.Statement.{statement}
 use Rattle.rewritten_tables.proofs.rewrite.Tie as tie

@@ -6,7 +6,7 @@ use Rattle.row_checks.proofs.check_rows.Statement.{statement}
 use Rattle.row_checks.proofs.check_rows.Tie as tie
 
 returns : tie.Need-returns
-returns c = c.check-rows-with.ensures ∙ none-asked _ _ _
+returns c = c.check_rows_with.ensures ∙ none-asked _ _ _
 
-pub check-rows-spec : {M : Type 1} → statement M
-check-rows-spec = tie.close (tie.spec (λ c κs. search rules) returns)
+pub check_rows_spec : {M : Type 1} → statement M
+check_rows_spec = tie.close (tie.spec (λ c κs. search rules) returns)

@@ -6,10 +6,10 @@ use Rattle.row_checks.proofs.check_rows_with.Statement.{statement}
 use Rattle.row_checks.proofs.check_rows_with.Tie as tie
 
 returns : tie.Need-returns
-returns c = c.check-session.ensures ∙ as-session-with _ _ _ _
+returns c = c.check_session.ensures ∙ as-session-with _ _ _ _
 
-pub check-rows-with-spec : {M : Type 1} → statement M
-check-rows-with-spec =
+pub check_rows_with_spec : {M : Type 1} → statement M
+check_rows_with_spec =
     tie.close
     (tie.spec
     (λ c. search rules)

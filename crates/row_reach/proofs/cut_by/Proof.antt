@@ -11,11 +11,11 @@ use Rattle.row_reach.proofs.cut_by.Tie as tie
 
 returns : tie.Need-returns
 returns c =
-    let a = c.before.before.before.before.args in
+    let a = c.args in
     let rs = in_force a.background.now a.list.now a.rules in
     let o = object a.yes a.no in
-    let e : c.before.refuted-part.result ≡ refuted_part rs o (implication a.set a.x) = c.before.refuted-part.ensures in
+    let e : c.refuted_part.result ≡ refuted_part rs o (implication a.set a.x) = c.refuted_part.ensures in
     c.difference.ensures ∙ ap (without a.x) e ∙ sym (cut-part rs a.set o a.x)
 
-pub cut-by-spec : {M : Type 1} → statement M
-cut-by-spec = tie.close (tie.spec (λ c κs. search rules) (λ c κs. search rules) returns)
+pub cut_by_spec : {M : Type 1} → statement M
+cut_by_spec = tie.close (tie.spec (λ c κs. search rules) (λ c κs. search rules) returns)

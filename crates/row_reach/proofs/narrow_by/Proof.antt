@@ -14,51 +14,44 @@ use Rattle.reach.specs.Reach.{cut, narrow}
 use Rattle.row_reach.proofs.narrow_by.Statement.{statement}
 use Rattle.row_reach.proofs.narrow_by.Tie as tie
 
-abbrev invariant-loop : tie.invariant-loop
+abbrev invariant-loop : tie.invariant-loop-i
 invariant-loop rows count background list rules set x left₀ i₀ left i =
     let rs = in_force background list rules in
     (i ≤ count) × (narrow rs set (objects_of (count - i) (drop (i * 2) rows)) left ≡ narrow rs set (objects_of count rows) x)
 
-abbrev decreases-loop : tie.decreases-loop
+abbrev decreases-loop : tie.decreases-loop-i
 decreases-loop rows count background list rules set x left₀ i₀ left i = count - i
 
--- the loop and the arguments, seen from behind the cut by an object
-abbrev at : tie.After-cut-by invariant-loop decreases-loop → tie.At-loop invariant-loop decreases-loop
-at c = c.before.before.before.before
-
-abbrev start : tie.At-loop invariant-loop decreases-loop → tie.Start invariant-loop decreases-loop
-start c = let known = c.before.before in known.before.before
-
 -- the implications in force
-abbrev force : tie.At-loop invariant-loop decreases-loop → List (Implication ℕ)
-force c = let a = (start c).args in in_force a.background.now a.list.now a.rules
+abbrev force : tie.At-loop-i invariant-loop decreases-loop → List (Implication ℕ)
+force c = let a = c.args in in_force a.background.now a.list.now a.rules
 
-loop-holds : tie.Need-loop-init invariant-loop decreases-loop
+loop-holds : tie.Need-loop-i-init invariant-loop decreases-loop
 loop-holds c = (omega arith, rw sub-zero)
 
-loop-again : tie.Need-loop-preserved invariant-loop decreases-loop
+loop-again : tie.Need-loop-i-preserved invariant-loop decreases-loop
 unfolding narrow
 loop-again c =
-    let l = (at c).loop in
-    let a = (start (at c)).args in
+    let l = c.loop-i in
+    let a = c.args in
     let h : l.i < a.count = omega arith in
     let o = object (get_or a.rows.now (l.i * 2) 0) (get_or a.rows.now (l.i * 2 + 1) 0) in
-    let e : c.cut_by.result ≡ cut (force (at c)) a.set o l.left = c.cut_by.ensures in (
+    let e : c.cut_by-left.result ≡ cut (force c.before.before.before.before) a.set o l.left = c.cut_by-left.ensures in (
       omega arith,
-      ap (narrow (force (at c)) a.set (objects_of (a.count - (l.i + 1)) (drop ((l.i + 1) * 2) a.rows.now))) e
-          ∙ ap (λ os. narrow (force (at c)) a.set os l.left) (sym (pairs-at object a.rows.now a.count l.i h)) ∙ l.inv.1,
+      ap (narrow (force c.before.before.before.before) a.set (objects_of (a.count - (l.i + 1)) (drop ((l.i + 1) * 2) a.rows.now))) e
+          ∙ ap (λ os. narrow (force c.before.before.before.before) a.set os l.left) (sym (pairs-at object a.rows.now a.count l.i h)) ∙ l.invariant.1,
     )
 
 returns : tie.Need-returns invariant-loop decreases-loop
 unfolding narrow
 returns c =
-    let l = c.before.loop in
-    let a = (start c.before).args in
+    let l = c.loop-i in
+    let a = c.args in
     ap (λ os. narrow (force c.before) a.set os l.left) (sym (pairs_end object (drop (l.i * 2) a.rows.now) a.count l.i (omega arith)))
     ∙ l.invariant.1
 
-pub narrow-by-spec : {M : Type 1} → statement M
-narrow-by-spec =
+pub narrow_by_spec : {M : Type 1} → statement M
+narrow_by_spec =
     tie.close
     (tie.spec
     invariant-loop

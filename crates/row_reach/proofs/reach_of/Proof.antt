@@ -9,20 +9,21 @@ use borrow.Author.Rules.{rules}
 use Rattle.row_reach.proofs.reach_of.Statement.{statement}
 use Rattle.row_reach.proofs.reach_of.Tie as tie
 
-abbrev start : tie.After-smaller → tie.Start
-start c = let known = c.before.before in known.before.before
-
 returns : tie.Need-returns
 unfolding reach
 returns c =
-    let a = (start c.before.before).args in
+    let a = c.args in
     let rs = in_force a.background.now a.list.now a.rules in
-    let e : c.narrow-by.result ≡ narrow rs a.set (objects_of c.before.before.smaller.result a.rows.now) c.before.full-set.result =
-    c.narrow-by.ensures in
+    let e : c.narrow_by.result ≡ narrow rs a.set (objects_of c.smaller.result a.rows.now) c.full_set.result =
+    c.narrow_by.ensures in
     e
-    ∙ ap₂ (λ k x. narrow rs a.set (objects_of k a.rows.now) x) c.before.before.smaller.ensures c.before.full-set.ensures
+    ∙ ap₂ (λ k x. narrow rs a.set (objects_of k a.rows.now) x) c.smaller.ensures c.full_set.ensures
     ∙ sym (reach-whole rs (min a.n 64) a.count a.rows.now a.set)
 
-pub reach-of-spec : {M : Type 1} → statement M
-reach-of-spec =
-    tie.close (tie.spec (λ c κs. search rules) (λ c κs. search rules) (λ c κs. search rules) returns)
+pub reach_of_spec : {M : Type 1} → statement M
+reach_of_spec =
+    tie.close (tie.spec
+    (λ c κs. search rules)
+    (λ c κs. search rules)
+    (λ c κs. search rules)
+    returns)

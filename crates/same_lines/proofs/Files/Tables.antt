@@ -23,7 +23,7 @@ use Rattle.table_header.specs.Header.{object_count, attribute_count, header}
 use Rattle.line_walk.specs.Walk.{walk}
 use Rattle.table_walk.specs.Walk.{place_of, then_rest}
 use Rattle.table_layout.specs.Layout.{most_bytes, to_attribute_names, to_marks, kinds_to_end, layout_of, opened_from, opened_of}
-use Rattle.table_layout.proofs.Layout.Laws.{opened-walked}
+use Rattle.table_layout.proofs.OfLayout.Laws.{opened-walked}
 use Rattle.found_layout.specs.Found.{finds}
 use Rattle.found_layout.proofs.Found.Laws.{finds-table}
 use Rattle.complete_tables.specs.Complete.{complete_from, complete_of}

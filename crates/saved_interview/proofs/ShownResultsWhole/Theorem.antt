@@ -16,7 +16,7 @@ use Rattle.answer_words.specs.declared.Answer.{Answer as Coded}
 use Rattle.answer_words.specs.Codes.{coded, code_of, answer_in}
 use Rattle.answer_words.proofs.Codes.Laws.{words-tell}
 use Rattle.call_logs.specs.Replay.{replay_code, known, answers_of, log_of}
-use Rattle.call_logs.proofs.Replay.Loop.{past-trans}
+use Rattle.call_logs.proofs.OfReplay.Loop.{past-trans}
 use Rattle.saved_interview.specs.Demand3Whole.{Interview, state_opened, end_state, script, rules}
 use Rattle.saved_interview.proofs.Demand3Whole.Theorem.{demand-3-whole}
 use Rattle.saved_interview.specs.Trace.{log, log_words_of}

@@ -18,43 +18,34 @@ use Rattle.checked_filing.proofs.Checked.Laws.{checked-turns}
 use Rattle.session_filing.proofs.file_row.Statement.{statement}
 use Rattle.session_filing.proofs.file_row.Tie as tie
 
-abbrev start : tie.After-check-session → tie.Start
-start c =
-    let d = c.before.before.before in
-    d.before.before
+abbrev state : tie.After-check_session-verdict → State
+state c = let a = c.args in state_of a.session a.rows.now a.list.now a.background.now
 
-abbrev state : tie.After-check-session → State
-state c = let a = (start c).args in state_of a.session a.rows.now a.list.now a.background.now
-
-abbrev offered : tie.After-check-session → Object
-offered c = object (start c).args.yes (start c).args.no
+abbrev offered : tie.After-check_session-verdict → Object
+offered c = object c.args.yes c.args.no
 
 -- what checks 1 to 7 said
-said : (c : tie.After-check-session) (x : Verdict) → c.check-session.result ≡ x → first_failing (session_checks (state c) []) ≡ verdict_of x
+said : (c : tie.After-check_session-verdict) (x : Verdict) → c.check_session-verdict.result ≡ x → first_failing (session_checks (state c) []) ≡ verdict_of x
 said c x e =
-    let v : verdict_of c.check-session.result ≡ first_failing (session_checks (state c) (implication 0 0 ∷ [])) = c.check-session.ensures in
+    let v : verdict_of c.check_session-verdict.result ≡ first_failing (session_checks (state c) (implication 0 0 ∷ [])) = c.check_session-verdict.ensures in
     sym (sym (ap verdict_of e) ∙ v ∙ unasked (state c))
 
-refusing : (c : tie.After-check-session) (r : Refusal) → first_failing (session_checks (state c) []) ≡ some r
+refusing : (c : tie.After-check_session-verdict) (r : Refusal) → first_failing (session_checks (state c) []) ≡ some r
     → perform (state c) (file (offered c)) ≡ turn (refused r) (state c)
 unfolding checks_of
 refusing c r e =
     perform-refused (state c) (file (offered c)) r (failing-first (session_checks (state c) []) (filing_checks (state c) (offered c)) r e)
 
-returns : tie.Need-returns
+returns : tie.Need-returns-in-Refused
 returns c =
-    let d = c.before.before.before.before in
-    refused-turns _ c.refused.ensures (refusing d _ (said d _ c.before.before.verdict.given.1))
+    refused-turns _ c.refused.ensures (refusing c.before.before _ (said c.before.before _ c.in-Refused.is))
 
-returns-2 : tie.Need-returns-2
+returns-2 : tie.Need-returns
 returns-2 c =
-    let filed = c.before.before in
-    let known = filed.before.before in
-    let d = known.before.before in
-    checked-turns (said d _ known.enum_told.given.1) filed.file-checked.ensures
+    checked-turns (said c.before.before.before.before.before _ c.in_default.is) c.file_checked.ensures
 
-pub file-row-spec : {M : Type 1} → statement M
-file-row-spec =
+pub file_row_spec : {M : Type 1} → statement M
+file_row_spec =
     tie.close
     (tie.spec
     (λ c κs. search rules)

@@ -6,14 +6,14 @@ use lib.ListN.{length-set}
 use Rattle.session_late_marks.proofs.add_marks.Statement.{statement}
 use Rattle.session_late_marks.proofs.add_marks.Tie as tie
 
-slice-write-rows-2 : tie.Need-slice-write-rows-2
+slice-write-rows-2 : tie.Need-bounds-rows-row-4
 slice-write-rows-2 c = simp length-set (omega arith)
 
 returns : tie.Need-returns
 returns c = refl
 
-pub add-marks-spec : {M : Type 1} → statement M
-add-marks-spec =
+pub add_marks_spec : {M : Type 1} → statement M
+add_marks_spec =
     tie.close
     (tie.spec
     (λ c. search rules)

@@ -14,36 +14,27 @@ use Rattle.checked_filing.proofs.Checked.Laws.{checked-turns}
 use Rattle.session_no.proofs.reject.Statement.{statement}
 use Rattle.session_no.proofs.reject.Tie as tie
 
-abbrev start : tie.After-test-row → tie.Start
-start c =
-    let d = c.before.before.before in
-    d.before.before
+abbrev state : tie.After-test_row-tested → State
+state c = let a = c.args in state_of a.session a.rows.now a.list.now a.background.now
 
-abbrev state : tie.After-test-row → State
-state c = let a = (start c).args in state_of a.session a.rows.now a.list.now a.background.now
-
-abbrev offered : tie.After-test-row → Object
-offered c = object (start c).args.yes (start c).args.no
+abbrev offered : tie.After-test_row-tested → Object
+offered c = object c.args.yes c.args.no
 
 -- what the test answered
-answered : (c : tie.After-test-row) (x : Testing) → c.test-row.result ≡ x → (perform (state c) (test (offered c))).answer ≡ testing_answer x
-answered c x e = sym c.test-row.ensures.answer ∙ ap testing_answer e
+answered : (c : tie.After-test_row-tested) (x : Testing) → c.test_row-tested.result ≡ x → (perform (state c) (test (offered c))).answer ≡ testing_answer x
+answered c x e = sym c.test_row-tested.ensures.answer ∙ ap testing_answer e
 
-returns : tie.Need-returns
+returns : tie.Need-returns-in-Refused
 returns c =
-    let d = c.before.before.before.before in
-    refused-turns _ c.refused.ensures (no-refused (state d) (offered d) _ (answered d _ c.before.before.tested.given.1))
+    refused-turns _ c.refused.ensures (no-refused (state c.before.before) (offered c.before.before) _ (answered c.before.before _ c.in-Refused.is))
 
-returns-2 : tie.Need-returns-2
+returns-2 : tie.Need-returns
 returns-2 c =
-    let filed = c.before.before in
-    let known = filed.before.before in
-    let d = known.before.before in
-    let same = no-filed (state d) (offered d) (answered d _ known.enum_told.given.1) in
-    as_call same.1 (λ x. refl) (λ x. refl) (checked-turns same.0 filed.file-checked.ensures)
+    let same = no-filed (state c.before.before.before.before.before) (offered c.before.before.before.before.before) (answered c.before.before.before.before.before _ c.in_default.is) in
+    as_call same.1 (λ x. refl) (λ x. refl) (checked-turns same.0 c.file_checked.ensures)
 
-pub reject-spec : {M : Type 1} → statement M
-reject-spec =
+pub reject_spec : {M : Type 1} → statement M
+reject_spec =
     tie.close
     (tie.spec
     (λ c κs. search rules)

@@ -14,44 +14,35 @@ use Rattle.session_queries.proofs.Answers.Laws.{follow-answers}
 use Rattle.session_queries.proofs.follows.Statement.{statement}
 use Rattle.session_queries.proofs.follows.Tie as tie
 
-abbrev start : tie.After-check-session → tie.Start
-start c = c.before.before.before.before
-
-abbrev state : tie.After-check-session → State
-state c = let a = (start c).args in state_of a.session a.rows.now a.list.now a.background.now
+abbrev state : tie.After-check_session-verdict → State
+state c = let a = c.args in state_of a.session a.rows.now a.list.now a.background.now
 
 -- the call, of the plain machine
-abbrev call : tie.After-check-session → Call
-call c = let a = (start c).args in follow (implication a.premise a.conclusion)
+abbrev call : tie.After-check_session-verdict → Call
+call c = let a = c.args in follow (implication a.premise a.conclusion)
 
 -- where it is refused
-refusing : (c : tie.After-check-session) (r : Refusal) → c.check-session.result ≡ Refused r → perform (state c) (call c) ≡ turn (refused r) (state c)
+refusing : (c : tie.After-check_session-verdict) (r : Refusal) → c.check_session-verdict.result ≡ Refused r → perform (state c) (call c) ≡ turn (refused r) (state c)
 unfolding checks_of
-refusing c r e = perform-refused (state c) (call c) r (sym c.check-session.ensures ∙ ap verdict_of e)
+refusing c r e = perform-refused (state c) (call c) r (sym c.check_session-verdict.ensures ∙ ap verdict_of e)
 
--- what it does where the checks pass: it answers with the result of the test
-abbrev checked : tie.After-follows-from → tie.After-check-session
-checked c = c.before.before.before
-
-accepted : (c : tie.After-follows-from)
-    → let d = checked c in
-    perform (state d) (call d) ≡ turn (followed c.follows-from.result) (state d)
+accepted : (c : tie.After-follows_from)
+    → perform (state c.before.before) (call c.before.before) ≡ turn (followed c.follows_from.result) (state c.before.before)
 accepted c =
-    let d = checked c in
-    let a = (start d).args in
-    follow-answers (state d) (implication a.premise a.conclusion) d.check-session.ensures c.before.enum_told.given.1 c.follows-from.ensures
+    let a = c.args in
+    follow-answers (state c.before.before) (implication a.premise a.conclusion) c.check_session-verdict.ensures c.in_default.is c.follows_from.ensures
 
-returns : tie.Need-returns
-returns c = performs (refusing c.before.before.before _ c.before.verdict.given.1) refl refl
+returns : tie.Need-returns-in-Refused
+returns c = performs (refusing c.before _ c.in-Refused.is) refl refl
 
-returns-2 : tie.Need-returns-2
-returns-2 c = performs (accepted c.before ∙ ap (λ b. turn (followed b) (state (checked c.before))) c.if1.true) refl refl
+returns-2 : tie.Need-returns-then-follows_from
+returns-2 c = performs (accepted c.before ∙ ap (λ b. turn (followed b) (state c.before.before.before)) c.if-follows_from.true) refl refl
 
-returns-3 : tie.Need-returns-3
-returns-3 c = performs (accepted c.before ∙ ap (λ b. turn (followed b) (state (checked c.before))) c.if1.false) refl refl
+returns-3 : tie.Need-returns
+returns-3 c = performs (accepted c.before ∙ ap (λ b. turn (followed b) (state c.before.before.before)) c.if-follows_from.false) refl refl
 
-pub follows-spec : {M : Type 1} → statement M
-follows-spec =
+pub follows_spec : {M : Type 1} → statement M
+follows_spec =
     tie.close
     (tie.spec
     (λ c κs. search rules)

@@ -17,47 +17,38 @@ use Rattle.session_queries.proofs.Answers.Laws.{refute-answers}
 use Rattle.session_queries.proofs.refuted.Statement.{statement}
 use Rattle.session_queries.proofs.refuted.Tie as tie
 
-abbrev start : tie.After-check-session → tie.Start
-start c = c.before.before.before.before
-
-abbrev state : tie.After-check-session → State
-state c = let a = (start c).args in state_of a.session a.rows.now a.list.now a.background.now
+abbrev state : tie.After-check_session-verdict → State
+state c = let a = c.args in state_of a.session a.rows.now a.list.now a.background.now
 
 -- the call, of the plain machine
-abbrev call : tie.After-check-session → Call
-call c = let a = (start c).args in refute (implication a.premise a.conclusion)
+abbrev call : tie.After-check_session-verdict → Call
+call c = let a = c.args in refute (implication a.premise a.conclusion)
 
 -- where it is refused
-refusing : (c : tie.After-check-session) (r : Refusal) → c.check-session.result ≡ Refused r → perform (state c) (call c) ≡ turn (refused r) (state c)
+refusing : (c : tie.After-check_session-verdict) (r : Refusal) → c.check_session-verdict.result ≡ Refused r → perform (state c) (call c) ≡ turn (refused r) (state c)
 unfolding checks_of
-refusing c r e = perform-refused (state c) (call c) r (sym c.check-session.ensures ∙ ap verdict_of e)
+refusing c r e = perform-refused (state c) (call c) r (sym c.check_session-verdict.ensures ∙ ap verdict_of e)
 
--- what it does where the checks pass: it answers with the place that the search gives
-abbrev checked : tie.After-first-refuting → tie.After-check-session
-checked c = c.before.before.before
-
-accepted : (c : tie.After-first-refuting)
-    → let d = checked c in
-    perform (state d) (call d) ≡ turn (refuted_at c.first-refuting.result (start d).args.session.rows) (state d)
+accepted : (c : tie.After-first_refuting-row)
+    → perform (state c.before.before) (call c.before.before) ≡ turn (refuted_at c.first_refuting-row.result c.args.session.rows) (state c.before.before)
 accepted c =
-    let d = checked c in
-    let a = (start d).args in
-    refute-answers (state d) (implication a.premise a.conclusion) d.check-session.ensures c.before.enum_told.given.1
-    c.first-refuting.ensures (length_pairs object a.session.rows a.rows.now)
+    let a = c.args in
+    refute-answers (state c.before.before) (implication a.premise a.conclusion) c.check_session-verdict.ensures c.in_default.is
+    c.first_refuting-row.ensures (length_pairs object a.session.rows a.rows.now)
 
-returns : tie.Need-returns
-returns c = performs (refusing c.before.before.before _ c.before.verdict.given.1) refl refl
+returns : tie.Need-returns-in-Refused
+returns c = performs (refusing c.before _ c.in-Refused.is) refl refl
 
-returns-2 : tie.Need-returns-2
+returns-2 : tie.Need-returns-then-row-used
 unfolding refuted_at
-returns-2 c = performs (accepted c.before ∙ rw (refuted_at, lt-ltb _ _ c.if1.true)) refl refl
+returns-2 c = performs (accepted c.before ∙ rw (refuted_at, lt-ltb _ _ c.if-row-used.true)) refl refl
 
-returns-3 : tie.Need-returns-3
+returns-3 : tie.Need-returns
 unfolding refuted_at
-returns-3 c = performs (accepted c.before ∙ rw (refuted_at, le-ltb _ _ c.if1.false)) refl refl
+returns-3 c = performs (accepted c.before ∙ rw (refuted_at, le-ltb _ _ c.if-row-used.false)) refl refl
 
-pub refuted-spec : {M : Type 1} → statement M
-refuted-spec =
+pub refuted_spec : {M : Type 1} → statement M
+refuted_spec =
     tie.close
     (tie.spec
     (λ c κs. search rules)

@@ -13,32 +13,27 @@ use Rattle.reply_checks.proofs.Outcomes.Laws.{asking-question, asking-refused}
 use Rattle.session_test.proofs.test_row.Statement.{statement}
 use Rattle.session_test.proofs.test_row.Tie as tie
 
-abbrev start : tie.After-check-test → tie.Start
-start c = c.before.before.before.before
+abbrev state : tie.After-check_test-asking → State
+state c = let a = c.args in state_of a.session a.rows.now a.list.now a.background.now
 
-abbrev state : tie.After-check-test → State
-state c = let a = (start c).args in state_of a.session a.rows.now a.list.now a.background.now
-
-abbrev call : tie.After-check-test → Call
-call c = test (object (start c).args.yes (start c).args.no)
+abbrev call : tie.After-check_test-asking → Call
+call c = test (object c.args.yes c.args.no)
 
 -- what was found, by its outcome
-outcome : (c : tie.After-check-test) (x : Asking) → c.check-test.result ≡ x → x ≡ asking (state c) (call c)
-outcome c x e = sym e ∙ c.check-test.ensures
+outcome : (c : tie.After-check_test-asking) (x : Asking) → c.check_test-asking.result ≡ x → x ≡ asking (state c) (call c)
+outcome c x e = sym e ∙ c.check_test-asking.ensures
 
-returns : tie.Need-returns
+returns : tie.Need-returns-in-Refused
 returns c =
-    let d = c.before.before.before in
-    performs (perform-refused (state d) (call d) _ (asking-refused (state d) (call d) _ (outcome d _ c.before.asking.given.1))) refl refl
+    performs (perform-refused (state c.before) (call c.before) _ (asking-refused (state c.before) (call c.before) _ (outcome c.before _ c.in-Refused.is))) refl refl
 
-returns-2 : tie.Need-returns-2
+returns-2 : tie.Need-returns
 unfolding performed
 returns-2 c =
-    let d = c.before.before in
-    performs (perform-accepted (state d) (call d) (asking-question (state d) (call d) _ (outcome d _ c.enum_told.given.1)).1) refl refl
+    performs (perform-accepted (state c.before) (call c.before) (asking-question (state c.before) (call c.before) _ (outcome c.before _ c.in_default.is)).1) refl refl
 
-pub test-row-spec : {M : Type 1} → statement M
-test-row-spec =
+pub test_row_spec : {M : Type 1} → statement M
+test_row_spec =
     tie.close
     (tie.spec
     (λ c κs. search rules)

@@ -22,89 +22,78 @@ use Rattle.session_replies.proofs.Answers.Laws.{yes-small, yes-leaves, refused-t
 use Rattle.session_yes.proofs.accept.Statement.{statement}
 use Rattle.session_yes.proofs.accept.Tie as tie
 
-abbrev start : tie.After-check-yes → tie.Start
-start c =
-    let d = c.before.before.before in
-    d.before.before
-
-abbrev state : tie.After-check-yes → State
-state c = let a = (start c).args in state_of a.session a.rows.now a.list.now a.background.now
+abbrev state : tie.After-check_yes-asking → State
+state c = let a = c.args in state_of a.session a.rows.now a.list.now a.background.now
 
 -- what was found, by its outcome
-outcome : (c : tie.After-check-yes) (x : Asking) → c.check-yes.result ≡ x → x ≡ asking (state c) accept
-outcome c x e = sym e ∙ c.check-yes.ensures
+outcome : (c : tie.After-check_yes-asking) (x : Asking) → c.check_yes-asking.result ≡ x → x ≡ asking (state c) accept
+outcome c x e = sym e ∙ c.check_yes-asking.ensures
 
--- the question that was found
-abbrev checked : tie.After-known-told → tie.After-check-yes
-checked c = c.before.before.before
-
-abbrev found : tie.After-known-told → Question
-found c = c.before.asking.given.0.0
+abbrev found : tie.In-Question → Question
+found c = c.in-Question.question
 
 -- it is the machine's, and the checks passed
-passed : (c : tie.After-known-told) → let s = state (checked c) in (found c ≡ question_of s) × (first_failing (checks_of s accept) ≡ none)
-passed c = asking-question (state (checked c)) accept (found c) (outcome (checked c) _ c.before.asking.given.1)
+passed : (c : tie.In-Question) → let s = state c.before in (found c ≡ question_of s) × (first_failing (checks_of s accept) ≡ none)
+passed c = asking-question (state c.before) accept (found c) (outcome c.before _ c.in-Question.is)
 
 -- so there is a place
-room : (c : tie.After-known-told) → let a = (start (checked c)).args in a.session.rules * 2 + 1 < length a.list.now
+room : (c : tie.In-Question) → let a = c.args in a.session.rules * 2 + 1 < length a.list.now
 room c =
-    let a = (start (checked c)).args in
-    omega (arith, (yes-small (state (checked c)) (passed c).1).1, length_pairs implication a.session.rules a.list.now)
+    let a = c.args in
+    omega (arith, (yes-small (state c.before) (passed c).1).1, length_pairs implication a.session.rules a.list.now)
 
-returns : tie.Need-returns
+returns : tie.Need-returns-in-Refused
 returns c =
-    let d = c.before.before.before.before in
-    refused-turns _ c.refused.ensures (perform-refused (state d) accept _ (asking-refused (state d) accept _ (outcome d _ c.before.before.asking2.given.1)))
+    refused-turns _ c.refused.ensures (perform-refused (state c.before.before) accept _ (asking-refused (state c.before.before) accept _ (outcome c.before.before _ c.in-Refused.is)))
 
-mul-list : tie.Need-overflow-mul-list
+mul-list : tie.Need-overflow_mul-list
 mul-list c = omega (arith, room c)
 
-mul-list-2 : tie.Need-overflow-mul-list-2
+mul-list-2 : tie.Need-offset_bounds-list-rules
 mul-list-2 c =
     let h = room c in
     search rules
 
-slice-write-list : tie.Need-slice-write-list
+slice-write-list : tie.Need-bounds-list-rules
 slice-write-list c = omega (arith, room c)
 
-mul-list-3 : tie.Need-overflow-mul-list-3
+mul-list-3 : tie.Need-overflow_mul-list-2
 mul-list-3 c = omega (arith, room c)
 
-add-list : tie.Need-overflow-add-list
+add-list : tie.Need-overflow_add-list
 add-list c = omega (arith, room c)
 
-mul-list-4 : tie.Need-overflow-mul-list-4
+mul-list-4 : tie.Need-offset_bounds-list-rules-2
 mul-list-4 c =
     let h = room c in
     search rules
 
-slice-write-list-2 : tie.Need-slice-write-list-2
+slice-write-list-2 : tie.Need-bounds-list-rules-2
 slice-write-list-2 c = rw length-set (omega (arith, room c))
 
-add-next-of : tie.Need-overflow-add-next-of
-add-next-of c = omega (arith, room c.before)
+add-next-of : tie.Need-overflow_add-rules
+add-next-of c = omega (arith, room c)
 
-add-t19 : tie.Need-overflow-add-t19
-add-t19 c = omega (arith, room c.before.before)
+add-t19 : tie.Need-overflow_add-result
+add-t19 c = omega (arith, room c.before)
 
 -- the turn of the machine, and what record and words then hold
-turned : (c : tie.After-known-told) → let s = state (checked c) in perform s accept ≡ turn taken (after_yes s)
+turned : (c : tie.In-Question) → let s = state c.before in perform s accept ≡ turn taken (after_yes s)
 unfolding performed
-turned c = perform-accepted (state (checked c)) accept (passed c).1
+turned c = perform-accepted (state c.before) accept (passed c).1
 
-returns-2 : tie.Need-returns-2
+returns-2 : tie.Need-returns
 returns-2 c =
-    let d = c.before.before in
-    let a = (start (checked d)).args in
-    let s = state (checked d) in
+    let a = c.args in
+    let s = state c.before.before in
     let l = a.list.now in
     let k = a.session.rules in
-    let same = ap (λ (x : Question). implication x.premise x.conclusion) (passed d).0 in
-    let holds = yes-leaves a.session a.rows.now l a.background.now (found d).premise (found d).conclusion (yes-small s (passed d).1).0 (room d) c.next_of.ensures same in
-    turns (performs (turned d ∙ ap (turn taken) (sym holds)) refl (written k (length s.list) l _ _ same (sym (length_pairs implication k l)))) refl
+    let same = ap (λ (x : Question). implication x.premise x.conclusion) (passed c.before).0 in
+    let holds = yes-leaves a.session a.rows.now l a.background.now (found c.before).premise (found c.before).conclusion (yes-small s (passed c.before).1).0 (room c.before) c.next_of-next.ensures same in
+    turns (performs (turned c.before ∙ ap (turn taken) (sym holds)) refl (written k (length s.list) l _ _ same (sym (length_pairs implication k l)))) refl
 
-pub accept-spec : {M : Type 1} → statement M
-accept-spec =
+pub accept_spec : {M : Type 1} → statement M
+accept_spec =
     tie.close
     (tie.spec
     (λ c κs. search rules)

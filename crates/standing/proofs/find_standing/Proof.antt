@@ -16,72 +16,55 @@ use Rattle.standing.proofs.Standings.Laws.{found-refused, found-full, found-tigh
 use Rattle.standing.proofs.find_standing.Statement.{statement}
 use Rattle.standing.proofs.find_standing.Tie as tie
 
-abbrev start : tie.After-check-session → tie.Start
-start c = c.before.before.before.before
-
-abbrev state : tie.After-check-session → State
-state c = let a = (start c).args in state_of a.session a.rows.now a.list.now a.background.now
+abbrev state : tie.After-check_session-verdict → State
+state c = let a = c.args in state_of a.session a.rows.now a.list.now a.background.now
 
 abbrev verdict : State → Option Refusal
 verdict s = first_failing (session_checks s [])
 
-decided : (c : tie.After-check-session) → verdict_of c.check-session.result ≡ verdict (state c)
-decided c = c.check-session.ensures ∙ unasked (state c)
+decided : (c : tie.After-check_session-verdict) → verdict_of c.check_session-verdict.result ≡ verdict (state c)
+decided c = c.check_session-verdict.ensures ∙ unasked (state c)
 
--- checks 1 to 7 passed
-abbrev checked : tie.After-enum-told → tie.After-check-session
-checked c = c.before.before
+clear : (c : tie.In_default) → verdict (state c.before) ≡ none
+clear c = sym (decided c.before) ∙ ap verdict_of c.in_default.is
 
-clear : (c : tie.After-enum-told) → verdict (state (checked c)) ≡ none
-clear c = sym (decided (checked c)) ∙ ap verdict_of c.enum_told.given.1
-
-small : (c : tie.After-enum-told) → (state (checked c)).n ≤ 64
-small c = (checked-small (state (checked c)) [] (clear c)).0
+small : (c : tie.In_default) → (state c.before).n ≤ 64
+small c = (checked-small (state c.before) [] (clear c)).0
 
 -- M, as the code has it
-whole : (c : tie.After-full-set) → let s = state (checked c.before) in c.full-set.result ≡ full s.n
-whole c = c.full-set.ensures ∙ ap full (omega (arith, small c.before))
+whole : (c : tie.After-full_set) → let s = state c.before.before in c.full_set.result ≡ full s.n
+whole c = c.full_set.ensures ∙ ap full (omega (arith, small c.before))
 
 -- the set is not M
-below : (c : tie.Else1) → let s = state (checked c.before.before) in s.current ≡ full s.n → ⊥
-below c e = c.if1.false (e ∙ sym (whole c.before))
+below : (c : tie.Else-current-full_set) → let s = state c.before.before.before in s.current ≡ full s.n → ⊥
+below c e = c.if-current-full_set.false (e ∙ sym (whole c.before))
 
--- what the call gives is the reach
-abbrev passed : tie.After-reach-of → tie.After-enum-told
-passed c = c.before.before.before
-
-reached : (c : tie.After-reach-of) → c.reach_of.result ≡ reach_of (state (checked (passed c)))
+reached : (c : tie.After-reach_of-x) → c.reach_of-x.result ≡ reach_of (state c.before.before.before.before)
 reached c =
-    let s = state (checked (passed c)) in
-    let e : c.reach_of.result ≡ reach (force s) (min s.n 64) s.rows s.current = c.reach_of.ensures in
-    e ∙ ap (λ k. reach (force s) k s.rows s.current) (omega (arith, small (passed c)))
+    let s = state c.before.before.before.before in
+    let e : c.reach_of-x.result ≡ reach (force s) (min s.n 64) s.rows s.current = c.reach_of-x.ensures in
+    e ∙ ap (λ k. reach (force s) k s.rows s.current) (omega (arith, small c.before.before.before))
 
-returns : tie.Need-returns
+returns : tie.Need-returns-in-Refused
 returns c =
-    let d = c.before.before.before in
-    found-refused (state d) _ (sym (decided d) ∙ ap verdict_of c.before.verdict.given.1)
+    found-refused (state c.before) _ (sym (decided c.before) ∙ ap verdict_of c.in-Refused.is)
 
-returns-2 : tie.Need-returns-2
+returns-2 : tie.Need-returns-then-current-full_set
 returns-2 c =
-    let d = c.before.before in
-    found-full (state (checked d)) (clear d) (c.if1.true ∙ whole c.before)
+    found-full (state c.before.before.before) (clear c.before.before) (c.if-current-full_set.true ∙ whole c.before)
 
-returns-3 : tie.Need-returns-3
+returns-3 : tie.Need-returns-then-x-current
 returns-3 c =
-    let e = c.before in
-    let d = passed e in
-    found-tight (state (checked d)) (clear d) (below e.before) (sym (reached e) ∙ c.if2.true)
+    found-tight (state c.before.before.before.before.before) (clear c.before.before.before.before) (below c.before.before) (sym (reached c.before) ∙ c.if-x-current.true)
 
-returns-4 : tie.Need-returns-4
+returns-4 : tie.Need-returns
 returns-4 c =
-    let e = c.before.before in
-    let d = passed e in
-    let s = state (checked d) in
-    found-open s (clear d) (below e.before) (λ h. c.before.if2.false (reached e ∙ h)) _
-    (c.difference.ensures ∙ ap (λ x. without x s.current) (reached e))
+    let s = state c.before.before.before.before.before.before in
+    found-open s (clear c.before.before.before.before.before) (below c.before.before.before) (λ h. c.if-x-current.false (reached c.before.before ∙ h)) _
+    (c.difference.ensures ∙ ap (λ x. without x s.current) (reached c.before.before))
 
-pub find-standing-spec : {M : Type 1} → statement M
-find-standing-spec =
+pub find_standing_spec : {M : Type 1} → statement M
+find_standing_spec =
     tie.close
     (tie.spec
     (λ c κs. search rules)

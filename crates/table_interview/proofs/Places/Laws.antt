@@ -11,7 +11,7 @@ use Rattle.session_opening.specs.Opening.{opening_of}
 use Rattle.session_opening.specs.declared.Opened.{Opened as Session-as-Opened}
 use Rattle.mark_reading.specs.Marks.{words_of_rows, complete_reading, complete_words_read}
 use Rattle.mark_reading.proofs.Marks.Laws.{rows-held, complete-reading, complete-words}
-use Rattle.table_layout.proofs.Layout.Passed.{table-objects}
+use Rattle.table_layout.proofs.OfLayout.Passed.{table-objects}
 use Rattle.complete_tables.proofs.Complete.Laws.{complete-layout, complete-table}
 use Rattle.table_layout.specs.declared.Layout.{Layout}
 use Rattle.table_layout.specs.declared.Opened.{Opened}

@@ -12,7 +12,7 @@ use Rattle.table_walk.specs.Walk.{place_of, then_rest}
 use Rattle.table_header.specs.Header.{header}
 use Rattle.table_layout.specs.Layout.{to_attribute_names, to_marks, kinds_to_end, layout, layout_of, opened_from}
 use Rattle.table_walk.proofs.Walk.Laws.{walk-then}
-use Rattle.table_layout.proofs.Layout.Laws.{layout-same, opened-long, opened-walked}
+use Rattle.table_layout.proofs.OfLayout.Laws.{layout-same, opened-long, opened-walked}
 use Rattle.table_layout.proofs.open.Statement.{statement}
 use Rattle.table_layout.proofs.open.Tie as tie
 

@@ -10,34 +10,26 @@ use Rattle.mark_reading.proofs.Marks.Laws.{reading-bad, reading-fine}
 use Rattle.table_marks.proofs.read_marks.Statement.{statement}
 use Rattle.table_marks.proofs.read_marks.Tie as tie
 
-abbrev start : tie.After-bad-length → tie.Start
-start c = c.before.before.before
-
-returns : tie.Need-returns
+returns : tie.Need-returns-then-bad_length
 returns c =
-    let b = c.before.before in
-    let a = (start b).args in
+    let a = c.args in
     let e = ap Refused c.refuse.ensures
-    ∙ sym (reading-bad (length a.rows.now) (opened_of a.file.now) (sym b.bad-length.ensures ∙ c.before.if1.true)) in
+    ∙ sym (reading-bad (length a.rows.now) (opened_of a.file.now) (sym c.bad_length.ensures ∙ c.if-bad_length.true)) in
     (e, ap (λ (o : Opened). words_of_rows o a.file.now a.rows.now) e)
 
-read-opened-requires : tie.Need-read-opened-requires
+read-opened-requires : tie.Need-read_opened-requires
 read-opened-requires c κs l e =
-    let o = c.before in
-    sym o.«open».ensures ∙ e
+    sym c.open-opened.ensures ∙ e
 
-returns-2 : tie.Need-returns-2
+returns-2 : tie.Need-returns
 returns-2 c =
-    let r = c.before.before in
-    let o = r.before.before in
-    let b = o.before.before in
-    let a = (start b).args in
-    let e = r.read_opened.ensures.0 ∙ ap (reading_from (length a.rows.now)) o.«open».ensures
-    ∙ sym (reading-fine (length a.rows.now) (opened_of a.file.now) (sym b.bad-length.ensures ∙ o.before.if1.false)) in
-    (e, r.read_opened.ensures.1 ∙ ap (λ (x : Opened). words_of_rows x a.file.now a.rows.now) e)
+    let a = c.args in
+    let e = c.read_opened.ensures.0 ∙ ap (reading_from (length a.rows.now)) c.open-opened.ensures
+    ∙ sym (reading-fine (length a.rows.now) (opened_of a.file.now) (sym c.bad_length.ensures ∙ c.if-bad_length.false)) in
+    (e, c.read_opened.ensures.1 ∙ ap (λ (x : Opened). words_of_rows x a.file.now a.rows.now) e)
 
-pub read-marks-spec : {M : Type 1} → statement M
-read-marks-spec =
+pub read_marks_spec : {M : Type 1} → statement M
+read_marks_spec =
     tie.close
     (tie.spec
     (λ c κs. search rules)

@@ -12,74 +12,61 @@ use Rattle.table_layout.specs.declared.Opened.TheVariants.{Refused}
 use Rattle.line_walk.specs.Walk.{walk}
 use Rattle.table_walk.specs.Walk.{Passes}
 use Rattle.table_walk.proofs.Walk.Passed.{passes-from}
-use Rattle.table_layout.proofs.Layout.Passed.{table-marks, starts-inside}
+use Rattle.table_layout.proofs.OfLayout.Passed.{table-marks, starts-inside}
 use Rattle.mark_reading.specs.Marks.{flat, reading_from}
 use Rattle.mark_reading.proofs.Marks.Laws.{rows-from, reading-short, reading-whole}
 use Rattle.table_marks.proofs.read_opened.Statement.{statement}
 use Rattle.table_marks.proofs.read_opened.Tie as tie
 
-abbrev found : tie.After-struct-known → tie.After-opened
-found c = c.before.before
-
-abbrev start : tie.After-opened → tie.Start
-start c = c.before.before.before.before
-
-abbrev start1 : tie.At-match-keys2 → tie.Start
-start1 c = c.before.before.before
-
 -- the lines of marks of the table pass
-marked : (c : tie.After-opened)
-    → let l = c.opened.given.0.0 in
-    let f = (start c).args.file.now in
+marked : (c : tie.In-Found-2)
+    → let l = c.in-Found.layout in
+    let f = c.args.file.now in
     (l.attributes ≤ most_attributes) × (l.marks ≤ length f) × Passes (walk (replicate l.objects (Marks l.attributes)) f l.marks)
-marked c = table-marks _ _ ((start c).requires _ c.opened.given.1)
+marked c = table-marks _ _ (c.requires _ c.in-Found.is)
 
 -- and its parts begin inside the file
-inside : (c : tie.After-opened)
-    → let l = c.opened.given.0.0 in
-    let f = (start c).args.file.now in
+inside : (c : tie.In-Found-2)
+    → let l = c.in-Found.layout in
+    let f = c.args.file.now in
     (l.object_names ≤ length f) × (l.attribute_names ≤ length f) × (l.marks ≤ length f)
-inside c = starts-inside _ _ ((start c).requires _ c.opened.given.1)
+inside c = starts-inside _ _ (c.requires _ c.in-Found.is)
 
-returns : tie.Need-returns
+returns : tie.Need-returns-in-Refused
 returns c =
-    let a = (start1 c.before.before).args in
-    (sym (ap (reading_from (length a.rows.now)) c.before.opened2.given.1), refl)
+    let a = c.args in
+    (sym (ap (reading_from (length a.rows.now)) c.in-Refused.is), refl)
 
-returns-2 : tie.Need-returns-2
+returns-2 : tie.Need-returns-then-rows-layout
 returns-2 c =
-    let o = found c.before.before in
-    let a = (start o).args in (
+    let a = c.args in (
       ap Refused c.refuse.ensures
-          ∙ sym (ap (reading_from (length a.rows.now)) o.opened.given.1 ∙ reading-short (length a.rows.now) _ (omega arith)),
+          ∙ sym (ap (reading_from (length a.rows.now)) c.in-Found.is ∙ reading-short (length a.rows.now) _ (omega arith)),
       refl,
     )
 
-sub-read-rows : tie.Need-overflow-sub-read-rows
-sub-read-rows c = omega (arith, inside (found c.before))
+sub-read-rows : tie.Need-slice_bounds-read_rows-count
+sub-read-rows c = omega (arith, inside c)
 
-part-read-rows-start : tie.Need-slice-bounds-read-rows-start
-part-read-rows-start c = omega (arith, inside (found c.before))
+part-read-rows-start : tie.Need-slice_bounds-read_rows-start
+part-read-rows-start c = omega (arith, inside c)
 
-read-rows-requires : tie.Need-read-rows-requires
+read-rows-requires : tie.Need-read_rows-requires
 read-rows-requires c κs =
-    let m = marked (found c.before.before.before) in
+    let m = marked c in
     (omega arith, m.0, passes-from _ _ _ m.2)
 
-returns-3 : tie.Need-returns-3
+returns-3 : tie.Need-returns
 returns-3 c =
-    let r = c.before.before in
-    let e = r.before.before.before in
-    let o = found e.before in
-    let a = (start o).args in
-    let l = o.opened.given.0.0 in (
-      sym (ap (reading_from (length a.rows.now)) o.opened.given.1 ∙ reading-whole (length a.rows.now) _ (omega arith)),
-      r.read-rows.ensures
+    let a = c.args in
+    let l = c.in-Found.layout in (
+      sym (ap (reading_from (length a.rows.now)) c.in-Found.is ∙ reading-whole (length a.rows.now) _ (omega arith)),
+      c.read_rows.ensures
           ∙ ap (λ (os : List Object). flat os ++ drop (l.objects * 2) a.rows.now) (rows-from a.file.now l.marks l.objects),
     )
 
-pub read-opened-spec : {M : Type 1} → statement M
-read-opened-spec =
+pub read_opened_spec : {M : Type 1} → statement M
+read_opened_spec =
     tie.close
     (tie.spec
     (λ c. search rules)

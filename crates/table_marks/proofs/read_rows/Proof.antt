@@ -14,108 +14,99 @@ use Rattle.mark_reading.proofs.Marks.Loop.{Reads, reads-start, next, reads_on, r
 use Rattle.table_marks.proofs.read_rows.Statement.{statement}
 use Rattle.table_marks.proofs.read_rows.Tie as tie
 
-abbrev invariant-loop : tie.invariant-loop
+abbrev invariant-loop : tie.invariant-loop-i
 invariant-loop part count n rows₀ at₀ i₀ rows at i = Reads part count n rows₀ rows at i
 
-abbrev decreases-loop : tie.decreases-loop
+abbrev decreases-loop : tie.decreases-loop-i
 decreases-loop part count n rows₀ at₀ i₀ rows at i = count - i
 
-abbrev start : tie.In-loop invariant-loop decreases-loop → tie.Start invariant-loop decreases-loop
-start c = c.before.before.before.before
-
-abbrev turn : tie.After-row-of invariant-loop decreases-loop → tie.In-loop invariant-loop decreases-loop
-turn c = c.before.before
-
 -- the two words of the row are there
-room : (c : tie.In-loop invariant-loop decreases-loop)
-    → let l = c.before.loop in (l.i * 2 + 1 < length l.rows) × ((l.i * 2 + 1) * 8 < 18446744073709551616)
+room : (c : tie.In-loop-i invariant-loop decreases-loop)
+    → let l = c.loop-i in (l.i * 2 + 1 < length l.rows) × ((l.i * 2 + 1) * 8 < 18446744073709551616)
 room c = omega arith
 
 -- the next line passes
-ahead : (c : tie.In-loop invariant-loop decreases-loop)
-    → let l = c.before.loop in
-    let a = (start c).args in
+ahead : (c : tie.In-loop-i invariant-loop decreases-loop)
+    → let l = c.loop-i in
+    let a = c.args in
     NextLine a.part.now a.count a.n l.at l.i
-ahead c = let l = c.before.loop in next _ _ _ _ l.rows l.at l.i l.invariant (omega arith)
+ahead c = let l = c.loop-i in next _ _ _ _ l.rows l.at l.i l.invariant (omega arith)
 
 -- it has no more bytes than a row has attributes
-short : (c : tie.In-loop invariant-loop decreases-loop)
-    → let l = c.before.loop in
-    let a = (start c).args in
+short : (c : tie.In-loop-i invariant-loop decreases-loop)
+    → let l = c.loop-i in
+    let a = c.args in
     length (take a.n (drop l.at a.part.now)) ≤ most_attributes
 short c =
-    let l = c.before.loop in
-    let a = (start c).args in
+    let l = c.loop-i in
+    let a = c.args in
     let h = length-take-le a.n (drop l.at a.part.now) (omega (arith, (ahead c).ranges, length-drop l.at a.part.now)) in
-    rw h (start c).requires.1
+    rw h c.requires.1
 
 -- the row read is the line's
-row : (c : tie.After-row-of invariant-loop decreases-loop)
-    → object c.row_of.result.yes c.row_of.result.no ≡ row_of (bytes_at (start (turn c)).args.part.now (turn c).before.loop.at)
+row : (c : tie.After-row_of-row invariant-loop decreases-loop)
+    → object c.row_of-row.result.yes c.row_of-row.result.no ≡ row_of (bytes_at c.args.part.now c.loop-i.at)
 row c =
-    let t = turn c in
-    let l = t.before.loop in
-    let a = (start t).args in
+    let l = c.loop-i in
+    let a = c.args in
     let e : l.at + a.n - l.at ≡ a.n = omega arith in
-    c.row_of.ensures ∙ ap (λ k. row_of (take most_attributes (take k (drop l.at a.part.now)))) e
-    ∙ ap row_of (take_all most_attributes (take a.n (drop l.at a.part.now)) (short t) ∙ (ahead t).bytes)
+    c.row_of-row.ensures ∙ ap (λ k. row_of (take most_attributes (take k (drop l.at a.part.now)))) e
+    ∙ ap row_of (take_all most_attributes (take a.n (drop l.at a.part.now)) (short c.before.before) ∙ (ahead c.before.before).bytes)
 
-loop-holds : tie.Need-loop-init invariant-loop decreases-loop
+loop-holds : tie.Need-loop-i-init invariant-loop decreases-loop
 loop-holds c =
-    let s = c.before.before in
-    reads-start _ _ _ _ s.requires.2
+    reads-start _ _ _ _ c.requires.2
 
-add-end : tie.Need-overflow-add-end invariant-loop decreases-loop
+add-end : tie.Need-overflow_add-end invariant-loop decreases-loop
 add-end c = omega (arith, (ahead c).ranges)
 
-part-row-of-end : tie.Need-slice-bounds-row-of-end invariant-loop decreases-loop
+part-row-of-end : tie.Need-slice_bounds-row_of-end invariant-loop decreases-loop
 part-row-of-end c = (ahead c).ranges
 
-mul-rows : tie.Need-overflow-mul-rows invariant-loop decreases-loop
-mul-rows c = omega (arith, room (turn c))
+mul-rows : tie.Need-overflow_mul-rows invariant-loop decreases-loop
+mul-rows c = omega (arith, room c.before.before)
 
-mul-rows-2 : tie.Need-overflow-mul-rows-2 invariant-loop decreases-loop
-mul-rows-2 c = omega (arith, room (turn c))
+mul-rows-2 : tie.Need-offset_bounds-rows-i invariant-loop decreases-loop
+mul-rows-2 c = omega (arith, room c.before.before)
 
-slice-write-rows : tie.Need-slice-write-rows invariant-loop decreases-loop
-slice-write-rows c = omega (arith, room (turn c))
+slice-write-rows : tie.Need-bounds-rows-i invariant-loop decreases-loop
+slice-write-rows c = omega (arith, room c.before.before)
 
-mul-rows-3 : tie.Need-overflow-mul-rows-3 invariant-loop decreases-loop
-mul-rows-3 c = omega (arith, room (turn c))
+mul-rows-3 : tie.Need-overflow_mul-rows-in-loop-i invariant-loop decreases-loop
+mul-rows-3 c = omega (arith, room c.before.before)
 
-add-rows : tie.Need-overflow-add-rows invariant-loop decreases-loop
-add-rows c = omega (arith, room (turn c))
+add-rows : tie.Need-overflow_add-rows invariant-loop decreases-loop
+add-rows c = omega (arith, room c.before.before)
 
-mul-rows-4 : tie.Need-overflow-mul-rows-4 invariant-loop decreases-loop
-mul-rows-4 c = omega (arith, room (turn c))
+mul-rows-4 : tie.Need-offset_bounds-rows-i-in-loop-i invariant-loop decreases-loop
+mul-rows-4 c = omega (arith, room c.before.before)
 
-slice-write-rows-2 : tie.Need-slice-write-rows-2 invariant-loop decreases-loop
-slice-write-rows-2 c = simp length-set (omega (arith, room (turn c)))
+slice-write-rows-2 : tie.Need-bounds-rows-i-in-loop-i invariant-loop decreases-loop
+slice-write-rows-2 c = simp length-set (omega (arith, room c.before.before))
 
-add-i : tie.Need-overflow-add-i invariant-loop decreases-loop
-add-i c = omega (arith, room (turn c.before))
+add-i : tie.Need-overflow_add-i invariant-loop decreases-loop
+add-i c = omega (arith, room c.before.before.before)
 
-loop-less : tie.Need-loop-smaller invariant-loop decreases-loop
+loop-less : tie.Need-loop-i-smaller invariant-loop decreases-loop
 loop-less c = omega arith
 
-loop-again : tie.Need-loop-preserved invariant-loop decreases-loop
+loop-again : tie.Need-loop-i-preserved invariant-loop decreases-loop
 loop-again c =
-    let t = turn c.before in
-    let l = t.before.loop in
-    rw (c.next-at.ensures ∙ (ahead t).behind)
-    (reads_on _ _ _ _ l.rows l.at l.i l.inv (omega arith) (start t).pre.0 (object c.before.row_of.result.yes c.before.row_of.result.no)
+    let l = c.loop-i in
+    rw (c.next_at-at.ensures ∙ (ahead c.before.before.before).behind)
+    (reads_on _ _ _ _ l.rows l.at l.i l.invariant (omega arith) c.pre.0 (object c.row_of-row.result.yes c.row_of-row.result.no)
     (row c.before))
 
-same_length : tie.Need-same-length invariant-loop decreases-loop
+same_length : tie.Need-shape_of-rows invariant-loop decreases-loop
 same_length c = omega arith
 
 returns : tie.Need-returns invariant-loop decreases-loop
 returns c =
-    let l = c.before.loop in
+    let l = c.loop-i in
     reads_end _ _ _ _ l.rows l.at l.i l.invariant (omega arith)
 
-pub read-rows-spec : {M : Type 1} → statement M
-read-rows-spec =
+pub read_rows_spec : {M : Type 1} → statement M
+read_rows_spec =
     tie.close
     (tie.spec
     invariant-loop

@@ -26,7 +26,7 @@ use Rattle.found_layout.specs.Found.{finds}
 use Rattle.found_layout.proofs.Found.Laws.{finds-table}
 use Rattle.line_tests.proofs.Tests.Laws.{unless-fine}
 use Rattle.table_walk.proofs.Walk.Passed.{line-there, passes_append, passes-cons}
-use Rattle.table_layout.proofs.Layout.Passed.{opened-table, starts-inside}
+use Rattle.table_layout.proofs.OfLayout.Passed.{opened-table, starts-inside}
 use Rattle.name_spans.specs.declared.Span.{Span}
 use Rattle.name_spans.proofs.Spans.Laws.{span-there}
 use Rattle.name_spans.specs.Spans.{span, span_from, object_span, attribute_span}

@@ -4,11 +4,11 @@ use Rattle.table_names.specs.Names.{name_refusal}
 use Rattle.table_names.proofs.refusal_of.Statement.{statement}
 use Rattle.table_names.proofs.refusal_of.Tie as tie
 
-returns : tie.Need-returns
-returns c = rw (name_refusal, eq-eqb _ _ c.if1.true)
+returns : tie.Need-returns-then-span-eq0
+returns c = rw (name_refusal, eq-eqb _ _ c.if-span-eq0.true)
 
-returns-2 : tie.Need-returns-2
-returns-2 c = rw (name_refusal, ne_eqb _ _ c.if1.false)
+returns-2 : tie.Need-returns
+returns-2 c = rw (name_refusal, ne_eqb _ _ c.if-span-eq0.false)
 
-pub refusal-of-spec : {M : Type 1} → statement M
-refusal-of-spec = tie.close (tie.spec returns returns-2)
+pub refusal_of_spec : {M : Type 1} → statement M
+refusal_of_spec = tie.close (tie.spec returns returns-2)

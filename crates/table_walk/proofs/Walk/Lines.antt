@@ -12,7 +12,7 @@ use Rattle.table_lines.specs.Pieces.{lines_of}
 use Rattle.table_lines.proofs.Pieces.Laws.{lines_at, lines_end}
 use Rattle.line_faults.specs.Faults.{fault}
 use Rattle.line_walk.specs.Walk.{walk}
-use Rattle.line_walk.proofs.Walk.Laws.{fault-there, walk-passed}
+use Rattle.line_walk.proofs.OfWalk.Laws.{fault-there, walk-passed}
 use Rattle.table_walk.specs.Walk.{Passes}
 use Rattle.table_walk.proofs.Walk.Passed.{line-there, passes-cons}
 

@@ -17,8 +17,8 @@ use Rattle.line_faults.specs.Faults.{fault}
 use Rattle.line_walk.specs.Walk.{line_fault, walk}
 use Rattle.table_walk.specs.Walk.{walk_on, place_of, Passes}
 use Rattle.line_tests.proofs.Tests.Laws.{unless-fine}
-use Rattle.table_kinds.proofs.Kinds.Laws.{absent-some}
-use Rattle.line_walk.proofs.Walk.Laws.{fault-there, fault-missing, walk-passed, walk-failed}
+use Rattle.table_kinds.proofs.LineKinds.Laws.{absent-some}
+use Rattle.line_walk.proofs.OfWalk.Laws.{fault-there, fault-missing, walk-passed, walk-failed}
 use Rattle.table_walk.proofs.Walk.Laws.{walk-append}
 
 module _ (file : List ℕ) where

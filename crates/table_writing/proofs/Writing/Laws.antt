@@ -27,7 +27,7 @@ use Rattle.line_faults.specs.Faults.{fault}
 use Rattle.line_walk.specs.declared.Walk.{Walk}
 use Rattle.line_walk.specs.declared.Walk.TheVariants.{Failed, At}
 use Rattle.line_walk.specs.Walk.{line_fault, walk}
-use Rattle.line_walk.proofs.Walk.Laws.{fault-there, fault-missing, walk-passed, walk-failed}
+use Rattle.line_walk.proofs.OfWalk.Laws.{fault-there, fault-missing, walk-passed, walk-failed}
 use Rattle.table_walk.specs.Walk.{place_of, Passes}
 use Rattle.table_walk.proofs.Walk.Lines.{Fine, passes-fine, fine-taken}
 use Rattle.table_layout.specs.Layout.{most_bytes}

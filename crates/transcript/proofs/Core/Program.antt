@@ -16,7 +16,7 @@ use Rattle.machine.specs.Machine.{Opening, opening, opened, rejected, opening_st
 use Rattle.table_layout.specs.Layout.{opened_of}
 use Rattle.table_rows.proofs.Rows.Laws.{rows-count}
 use Rattle.complete_tables.specs.Complete.{complete_of}
-use Rattle.table_layout.proofs.Layout.Passed.{table-attributes, table-objects}
+use Rattle.table_layout.proofs.OfLayout.Passed.{table-attributes, table-objects}
 use Rattle.complete_tables.proofs.Complete.Laws.{complete-table, complete-layout}
 use Rattle.table_layout.specs.declared.Layout.{Layout}
 use Rattle.session.specs.declared.Refusal.{Refusal}

@@ -5,7 +5,7 @@ use Rattle.std.proofs.Common.{ap}
 use Rattle.session.specs.Refusals.{refusal}
 use Rattle.machine.specs.Checks.{Lent}
 use Rattle.table_layout.specs.Layout.{most_bytes, input_most}
-use Rattle.table_layout.proofs.Layout.Laws.{opened-long, from-first-bytes}
+use Rattle.table_layout.proofs.OfLayout.Laws.{opened-long, from-first-bytes}
 use Rattle.table_layout.specs.declared.Opened.{Opened}
 use Rattle.complete_tables.specs.Complete.{complete_of}
 use Rattle.closing_lines.specs.Closing.{refusal_line}

@@ -25,7 +25,7 @@ use Rattle.table_counts.specs.Counts.{count_of}
 use Rattle.table_header.specs.Header.{object_count, attribute_count, header}
 use Rattle.table_layout.specs.declared.Opened.TheVariants.{Found}
 use Rattle.table_layout.specs.Layout.{to_attribute_names, to_marks, kinds_to_end, opened_of}
-use Rattle.table_layout.proofs.Layout.Laws.{layout-same, opened-walked}
+use Rattle.table_layout.proofs.OfLayout.Laws.{layout-same, opened-walked}
 use Rattle.found_layout.specs.Found.{finds}
 use Rattle.found_layout.proofs.Found.Laws.{finds-table}
 use Rattle.table_rows.specs.Rows.{row_of, rows_from}

@@ -40,7 +40,7 @@ use Rattle.table_header.specs.Header.{header, object_count, attribute_count}
 use Rattle.table_layout.specs.declared.Layout.{Layout}
 use Rattle.table_layout.specs.declared.Opened.TheVariants.{Found}
 use Rattle.table_layout.specs.Layout.{to_attribute_names, to_marks, kinds_to_end, layout_of, opened_of}
-use Rattle.table_layout.proofs.Layout.Passed.{opened-table, table-attributes, table-marks}
+use Rattle.table_layout.proofs.OfLayout.Passed.{opened-table, table-attributes, table-marks}
 use Rattle.found_layout.specs.Found.{finds}
 use Rattle.found_layout.proofs.Found.Laws.{finds-table}
 use Rattle.name_spans.proofs.Spans.Laws.{span-there}

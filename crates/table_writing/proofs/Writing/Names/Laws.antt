@@ -20,7 +20,7 @@ use Rattle.line_faults.specs.Faults.{fault}
 use Rattle.line_walk.specs.declared.Walk.{Walk}
 use Rattle.line_walk.specs.declared.Walk.TheVariants.{Failed, At}
 use Rattle.line_walk.specs.Walk.{line_fault, walk}
-use Rattle.line_walk.proofs.Walk.Laws.{fault-there, walk-passed, walk-failed}
+use Rattle.line_walk.proofs.OfWalk.Laws.{fault-there, walk-passed, walk-failed}
 use Rattle.table_walk.proofs.Walk.Passed.{line-there}
 use Rattle.table_writing.specs.Writing.{names_walk, is_failed, NamesPass}
 use Rattle.table_writing.specs.Writing.Names.{GoodName, BadName, FirstBad}

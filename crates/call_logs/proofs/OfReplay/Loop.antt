@@ -15,7 +15,7 @@ use Rattle.machine.specs.Calls.{state_of}
 use Rattle.answer_words.specs.declared.Answer.{Answer as Coded}
 use Rattle.logged_calls.specs.Kinds.{call_of, ReplaysFrom}
 use Rattle.call_logs.specs.Replay.{calls_of, stored, replay_after, known, answers_of, PastKept, LogWords, log_words, log_of, AllMade}
-use Rattle.call_logs.proofs.Replay.Laws.{replayed}
+use Rattle.call_logs.proofs.OfReplay.Laws.{replayed}
 use Rattle.session.specs.declared.Session.{Session}
 
 -- ---- the calls left
