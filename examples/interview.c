@@ -1,6 +1,6 @@
 /* Holds an interview on the terminal over a table file whose marks may be unknown, and shows the rules agreed to.
  *
- *     rt staticlib zundrafl
+ *     tools/build zundrafl
  *     cc -Iinclude examples/interview.c target/staticlib/libzundrafl.a -o target/interview
  *     target/interview examples/tables/pets
  *

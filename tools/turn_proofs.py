@@ -71,8 +71,19 @@ class Places:
         self.by_alike = {alike(o): o for o in order}
         self.by_new = {alike(n): o for o, n in self.new.items()}
 
+        # an arm takes up the places before it
+        self.into = {}
+        for old in order:
+            if self.arm[old] and self.arm[old][1] > 1:
+                inner, count = old, self.arm[old][1]
+                for _ in range(count - 1):
+                    inner = self.parent[inner]
+                    if self.into.get(inner) is None or self.arm[self.into[inner]][1] < count:
+                        self.into[inner] = old
+
     def named(self, word):
-        return self.by_alike.get(alike(word)) or self.by_new.get(alike(word))
+        found = self.by_alike.get(alike(word)) or self.by_new.get(alike(word))
+        return self.into.get(found, found)
 
     def chain(self, frm, to):
         """How many `.before` lead from one place to another now, or None."""
@@ -425,10 +436,9 @@ class Turner:
             fields.pop(0)
         if not fields:
             return self.way(var, at), i
-        if fields[0] == "fits":
-            fields[0] = "ranges"
+        fields[0] = {"fits": "ranges", "pre": "requires"}.get(fields[0], fields[0])
         first, rest = fields[0], fields[1:]
-        found = self.places.field(at, first, rest)
+        found = self.places.field(at, first, rest) or (self.places.field(self.roots[var], first, rest) if var in self.roots else None)
         if found:
             path, used = found
             rest = rest[used:]
@@ -465,6 +475,7 @@ class Turner:
 
     def way(self, var, at):
         root = self.roots.get(var)
+        at = at if self.places.chain(root, at) is not None else self.places.into.get(at, at)
         n = self.places.chain(root, at) if root else None
         if n is None:
             self.notes.append(f"no way from {root} to {at}")

@@ -6,10 +6,10 @@ use Rattle.std.specs.Prelude.{◌≡◌, refl, Bool, true, false, ℕ, suc, ◌+
 use Rattle.std.proofs.Common.{sym, subst}
 use Rattle.std.proofs.Math.Option.{some}
 use seplogic.Ra.Ura.{Ura}
-use seplogic.Ra.TreeShare.{full_share}
+use base.Fraction.{full_share}
 use mir.Syntax.{Ty, place, deref, field, copy, rv_opd, Body, seq, assign, cond, skip}
 use mir.Val.{Val, WT, has_ty, vptr, vbool}
-use base.Fml.{Lft, Share, flft, fobs, fbor, fshr_bor, fat, froom}
+use base.Fml.{Lft, Share, flft, fobs, fbor, fat, froom}
 use prog.Memory.{field_of}
 use prog.Wp.{Env, spot_of, Calls, Loops}
 use types.Logic.{Logic}
@@ -18,8 +18,8 @@ use types.Run.{look, look_raw, store_raw, stop, hop, from, load, of_opd, assigns
 use types.Part.{Part, look_in}
 use types.SemTy.{Body as Held}
 use denote.Laws.{Is, shows}
-use denote.Memory.{mem, part_at}
-use Rattle.std.specs.Borrow.{MutBor}
+use denote.Memory.{mem, hidden_shr}
+use denote.Ref.{Bor, MutBor}
 use denote.Steps.{opens, closes, looks, shuts, owned, peeks}
 use denote.Struct.Declared.{Declared, fields, row, shape}
 use denote.Struct.Steps.{spelt}
@@ -110,15 +110,15 @@ module _ {M : Type 1} {𝓤 : Ura M} {𝓛 : Logic 𝓤} {K : Type 0} {Γ : List
   stores-if t D L plain x d is false n m o e f r b = step (λ next.
       first t $ branches t (copied t (suc (suc (suc o))) b) (λ z. absurd z) (λ _. skips t $ exec t C Λ E rest q $ next))
 
-  pub reads : K → (D : Declared) (L : LL.Laws D) → LL.Copyables D.parts → (x : MutBor D.D) {i j : ℕ} (n m : ℕ)
+  pub reads : K → (D : Declared) (L : LL.Laws D) → LL.Copyables D.parts → (x : Bor D.D) {i j : ℕ} (n m : ℕ)
       → nth 𝓛 n Γ ≡ ‵ (fat full_share (spot_of 𝓤 H E j).0 (spot_of 𝓤 H E j).1 0 (vptr x.ref_ptr.0 x.ref_ptr.1))
       → nth 𝓛 m Γ ≡ ‵ (froom (spot_of 𝓤 H E i).0 (spot_of 𝓤 H E i).1 0) → (spot_of 𝓤 H E i).0 ≡ layout (shape D)
-      → (Is (row D) x.now (LL.vals D L x.now) → Seq K 𝓛 (‵ (flft κ s) ∷ ‵ (fshr_bor κ (λ r. part_at (row D) r x.now x.ref_ptr.0 x.ref_ptr.1))
+      → (Is (row D) x.now (LL.vals D L x.now) → Seq K 𝓛 (‵ (flft κ s) ∷ ‵ (hidden_shr (row D) κ x.now x.ref_ptr.0 x.ref_ptr.1)
       ∷ put 𝓛 m (‵ (fat full_share (spot_of 𝓤 H E i).0 (spot_of 𝓤 H E i).1 0 (LL.val D L x.now))) Γ) (runs C Λ E rest q))
-      → Seq K 𝓛 (‵ (fshr_bor κ (λ r. part_at (row D) r x.now x.ref_ptr.0 x.ref_ptr.1)) ∷ ‵ (flft κ s) ∷ Γ)
+      → Seq K 𝓛 (‵ (hidden_shr (row D) κ x.now x.ref_ptr.0 x.ref_ptr.1) ∷ ‵ (flft κ s) ∷ Γ)
       (runs C Λ E (seq (assign (place i []) (rv_opd (copy (place j (deref (layout (shape D)) ∷ []))))) rest) q)
   reads t D L cs x {i} n m e e' τ k =
-      looks t tt (row D) (Is (row D)) (shows 𝓛 (row D)) (LL.vals D L) (LL.tells D L) (LL.copy D cs 𝓛) x.now x.ref_ptr.0 x.ref_ptr.1
+      looks t tt (row D) (LL.copied D cs 𝓛).opens x.now x.ref_ptr.0 x.ref_ptr.1
       (λ r vs.
       spelt t (row D) (Is (row D)) (shows 𝓛 (row D)) (LL.vals D L) (LL.tells D L) r x.now vs x.ref_ptr.0 x.ref_ptr.1 $
       move t (1 ∷ []) $ peeks t (row D) (Is (row D)) (shows 𝓛 (row D)) x.now (LL.vals D L x.now) (λ was. move t (1 ∷ 0 ∷ []) $

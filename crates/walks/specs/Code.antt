@@ -74,7 +74,7 @@ stores_field i D j k = assign (place i (deref (layout (shape D)) ∷ [])) (rv_op
 abbrev pub stores_local : ℕ → Declared → ℕ → Body
 stores_local i D j = assign (place i (deref (layout (shape D)) ∷ [])) (rv_opd (copy (place j [])))
 
--- ---- a function of a number of lifetimes, without bounds, and of a number of parameters
+-- ---- a function of a number of lifetimes, without bounds, and of a number of parameters. It takes no type and no dictionary
 
 abbrev pub function : ℕ → ℕ → List Local → Body → Fn
-function ls ps locals body = record { lifetimes = ls; outlives = []; params = ps; locals = locals; body = body }
+function ls ps locals body = record { lifetimes = ls; outlives = []; ty_params = []; givens = 0; params = ps; locals = locals; body = body }

@@ -2,7 +2,7 @@
 -- value, the words as they are. What is known of the callee gives the function's contract, once the function's own code is walked.
 use Rattle.std.specs.Prelude.{ℕ, suc, List, [], ◌∷◌}
 use seplogic.Ra.Ura.{Ura}
-use mir.Syntax.{Name, Fn}
+use mir.Syntax.{Callee, Fn}
 use mir.Val.{Val}
 use base.Logic.{SProp, ent, emp}
 use Rattle.std.specs.Borrow.{Fml}
@@ -92,7 +92,7 @@ module _ (P : Passing) where
     -- what is known of the callee
     open 𝓛 use {H}
 
-    abbrev pub Known : Calls 𝓤 H → Name → Type 1
+    abbrev pub Known : Calls 𝓤 H → Callee → Type 1
     Known C n = Triple 𝓤 (C n) (Agreed 𝓛 callee k)
 
     module _ (κs : Lfts P.own.lifetimes) (a : Args lent.signature κs) where
@@ -118,21 +118,21 @@ module _ (P : Passing) where
       Enough g g' = (r : Res callee.signature (below κs)) (ws : Lasts callee (below κs) (given κs a)) → ent 𝓤 (promised g' r ws) (owed g r ws)
 
     -- what a walk shows, and what it comes to
-    abbrev pub Walks : (Name → Fn) → Type 2
+    abbrev pub Walks : (Callee → Fn) → Type 2
     Walks f =
         (κs : Lfts P.own.lifetimes) (qs : Shares P.own.lifetimes) (a : Args lent.signature κs) (g : (c κs a).ghost) (g' : Ghost κs a)
-        (n : Name) (C : Calls 𝓤 H) (Λ : Loops 𝓤 H) → FmC 𝓤 H 𝓛.laws C → Known C n → Free κs a g' → Enough κs a g g'
+        (n : Callee) (C : Calls 𝓤 H) (Λ : Loops 𝓤 H) → FmC 𝓤 H 𝓛.laws C → Known C n → Free κs a g' → Enough κs a g g'
         → Walk 𝓛 lent c (spells P.own.params) C Λ (f n) κs qs tt a g
 
-    abbrev pub Passes : (Name → Fn) → Type 2
+    abbrev pub Passes : (Callee → Fn) → Type 2
     Passes f =
-        (n : Name) (𝓣 : Tables 𝓤 H) → Known 𝓣.C n
+        (n : Callee) (𝓣 : Tables 𝓤 H) → Known 𝓣.C n
         → (g' : (κs : Lfts P.own.lifetimes) (a : Args lent.signature κs) → Ghost κs a)
         → ((κs : Lfts P.own.lifetimes) (a : Args lent.signature κs) → Free κs a (g' κs a))
         → ((κs : Lfts P.own.lifetimes) (a : Args lent.signature κs) (g : (c κs a).ghost) → Enough κs a g (g' κs a))
         → Meets 𝓛 lent.signature (WpFn 𝓤 H 𝓣.C 𝓣.Λ (f n)) (closing 𝓛 lent c)
 
-    pub passes : (f : Name → Fn) → Walks f → Passes f
+    pub passes : (f : Callee → Fn) → Walks f → Passes f
     passes f walk n 𝓣 known g' free enough =
         meets 𝓛 lent c (f n) 𝓣 (spells P.own.params) (tells P.own.params)
         (λ κs qs bounds a g are. walk κs qs a g (g' κs a) n 𝓣.C 𝓣.Λ (fm_of 𝓤 H 𝓛.laws 𝓣) known (free κs a) (enough κs a g) are)

@@ -1,13 +1,13 @@
 -- The names that the walks use, in one place.
 pub use Rattle.std.specs.Prelude.{refl, [], ◌∷◌}
 pub use seplogic.Ra.Ura.{Ura}
-pub use mir.Syntax.{Name, Fn, named, erased, mut, imm, w8, w64, place, opd_unit, rv_opd, seq, assign, call, cond, skip, return}
+pub use mir.Syntax.{Callee, Fn, named, erased, mut, imm, w8, w64, place, opd_unit, rv_opd, seq, assign, call, cond, skip, return}
 pub use base.Logic.{ent, emp}
 pub use base.Fml.{flft}
 pub use prog.Wp.{Heap, Calls, Loops, WpFn, Tables}
 pub use ghost.Atoms.{Atoms}
 pub use contract.Lifetimes.{Lfts, Shares, toks}
-pub use types.Kit.{Given, ‵, raw, ◌⊛◌, ◌$◌, ◌∵◌, !, qed, move, drop, fjoin, suffices, use1}
+pub use types.Kit.{‵, raw, ◌⊛◌, ◌$◌, ◌∵◌, !, qed, move, drop, fjoin, suffices, use1}
 pub use types.Run.{look, init, stop, hop, fld, from, addr, of_opd, unit_lit, and_then, no_more, land, returns, enter, alloc1, alloc0, params1, pass1, pass0, free0}
 pub use types.Part.{agg, whole, sub, look_in}
 pub use sound.WpLaws.{FmC, fm_of}

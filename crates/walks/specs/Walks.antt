@@ -12,8 +12,8 @@ use Rattle.std.specs.Prelude.{◌≡◌, refl, ℕ, suc, ◌+◌, List, [], ◌�
 use Rattle.std.proofs.Common.{ap, sym, subst}
 use Rattle.std.proofs.Math.Option.{some as some-field}
 use seplogic.Ra.Ura.{Ura}
-use seplogic.Ra.TreeShare.{full_share}
-use mir.Syntax.{Name, Place, place, field, Opd as Operand, copy, Rv as RValue, Body, seq, assign, call, Ty, Fn}
+use base.Fraction.{full_share}
+use mir.Syntax.{Callee, Place, place, field, Opd as Operand, copy, Rv as RValue, Body, seq, assign, call, Ty, Fn}
 use mir.Val.{Val, WT, has_ty}
 use base.Logic.{SProp, ent, sep, emp, via, fst∗, id⊢}
 use base.Fml.{Share, Fml, fat, froom, fdies}
@@ -103,14 +103,14 @@ module _ {M : Type 1} {𝓤 : Ura M} {𝓛 : Logic 𝓤} {K : Type 0} {Γ : List
 
   learnt : K → {G : Goal 𝓤 H} (D : Declared) (L : LL.Laws D) (r : D.D) (v : Val)
       → (Typed (row D).mir (v ∷ []) → v ≡ LL.val D L r → AreAll (fields D) (D.to r) (valss (fields D) (LL.spells D.parts L) (D.to r))
-      → Seq K 𝓛 (‵ ((row D).own r (v ∷ [])) ∷ Γ) G)
-      → Seq K 𝓛 (‵ ((row D).own r (v ∷ [])) ∷ Γ) G
+      → Seq K 𝓛 (‵ ((row D).own_val r (v ∷ [])) ∷ Γ) G)
+      → Seq K 𝓛 (‵ ((row D).own_val r (v ∷ [])) ∷ Γ) G
   learnt t D L r v k =
       peeks t (row D) (Is (row D)) (shows 𝓛 (row D)) r (v ∷ []) (λ is. k ((LL.lawful D L 𝓛).typed r (v ∷ []) is)
       (ap only (LL.tells D L r (v ∷ []) is)) (LL.owed D L r (v ∷ []) is))
 
   module _ {E : Env 𝓤 H} where
-    pub called : K → {C : Calls 𝓤 H} → FmC 𝓤 H 𝓛.laws C → {Λ : Loops 𝓤 H} {q : Post 𝓤 H} {f : Name} {xs : List Operand} {d : Place} {rest : Body}
+    pub called : K → {C : Calls 𝓤 H} → FmC 𝓤 H 𝓛.laws C → {Λ : Loops 𝓤 H} {q : Post 𝓤 H} {f : Callee} {xs : List Operand} {d : Place} {rest : Body}
         (D : Ended) (c : Clauses 𝓤 D) → Triple 𝓤 (C f) (triple_of 𝓛 D.signature (closing 𝓛 D c))
         → (y : (triple_of 𝓛 D.signature (closing 𝓛 D c)).Ghost)
         → ent 𝓤 (emp 𝓤) ((c y.0.0 y.0.3).requires y.1)
@@ -136,11 +136,11 @@ module _ {M : Type 1} {𝓤 : Ura M} {𝓛 : Logic 𝓤} {K : Type 0} {Γ : List
         (b n : ℕ) → nth 𝓛 n Γ ≡ ‵ (froom (layout (shape D)) b 0) → spot_of 𝓤 H E i ≡ (layout (shape D), b, 0)
         → (AreAll (fields D) (D.to r) (valss (fields D) (LL.spells D.parts L) (D.to r))
         → Seq K 𝓛 (put 𝓛 n (‵ (fat full_share (layout (shape D)) b 0 (LL.val D L r))) Γ) (runs C Λ E rest q))
-        → Seq K 𝓛 (‵ ((row D).own r (v ∷ [])) ∷ Γ) (lands C Λ E (place i []) v rest q)
+        → Seq K 𝓛 (‵ ((row D).own_val r (v ∷ [])) ∷ Γ) (lands C Λ E (place i []) v rest q)
     landed t {C} {Λ} {q} {i} {rest} D L r v b n e at k =
         learnt t D L r v (λ typed spelled made.
-        subst (λ (w : Val). Seq K 𝓛 (‵ ((row D).own r (w ∷ [])) ∷ Γ) (lands C Λ E (place i []) w rest q)) (sym spelled)
-        (land t (subst (λ (sp : Spot 𝓤 H). Finds K 𝓛 (‵ ((row D).own r (LL.val D L r ∷ [])) ∷ Γ) E (place i []) sp) at (from t (stop t)))
+        subst (λ (w : Val). Seq K 𝓛 (‵ ((row D).own_val r (w ∷ [])) ∷ Γ) (lands C Λ E (place i []) w rest q)) (sym spelled)
+        (land t (subst (λ (sp : Spot 𝓤 H). Finds K 𝓛 (‵ ((row D).own_val r (LL.val D L r ∷ [])) ∷ Γ) E (place i []) sp) at (from t (stop t)))
         (init t (suc n) e (subst (λ (w : Val). Typed (row D).mir (w ∷ [])) spelled typed).0) $ drop t $ k made))
 
     -- a local is read, and a field of one

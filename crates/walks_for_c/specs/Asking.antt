@@ -1,5 +1,6 @@
 -- For C, a call that only reads: the record and three slices of words are lent to be read, with two words.
-use Rattle.walks.specs.Tools.{refl, [], ◌∷◌, Ura, Name, Fn, named, mut, imm, w64, place, opd_unit, rv_opd, seq, assign, call, return, flft, toks, ‵, raw, ◌⊛◌, ◌$◌, ◌∵◌, !, qed, move, fjoin, look, init, of_opd, unit_lit, and_then, no_more, returns, enter, alloc1, alloc0, params1, pass1, pass0, free0, Is, u64, unit, uint_Lawful, shr_slice_Lawful, plain, owned, row, Clauses, called, landed, copied, sets, freed, reads, stores-whole, words_of, apart-shared, given-back-shared, Lendable, nothing, function, lent_struct, struct, words, word, whole_of, reads_struct, stores_local, mut_struct, shr_struct, own_struct, shr_slice, number, between, Passing, lent, callee, held, parts_in, said_out, sent, Walks, Passes, passes, ends}
+use Rattle.std.specs.Prelude.{refl, [], ◌∷◌}
+use Rattle.walks.specs.Tools.{Ura, Callee, Fn, named, mut, imm, w64, place, opd_unit, rv_opd, seq, assign, call, return, flft, toks, ‵, raw, ◌⊛◌, ◌$◌, ◌∵◌, !, qed, move, fjoin, look, init, of_opd, unit_lit, and_then, no_more, returns, enter, alloc1, alloc0, params1, pass1, pass0, free0, Is, u64, unit, uint_Lawful, shr_slice_Lawful, plain, owned, row, Clauses, called, landed, copied, sets, freed, reads, stores-whole, words_of, apart-shared, given-back-shared, Lendable, nothing, function, lent_struct, struct, words, word, whole_of, reads_struct, stores_local, mut_struct, shr_struct, own_struct, shr_slice, number, between, Passing, lent, callee, held, parts_in, said_out, sent, Walks, Passes, passes, ends}
 use denote.Struct.Laws as LL
 use types.Logic.{Logic}
 
@@ -16,7 +17,7 @@ module _ (T N : Lendable) where
   }
 
   -- the code, with the name of the one that it calls
-  abbrev pub asking : Name → Fn
+  abbrev pub asking : Callee → Fn
   asking n = function 5 7 (nothing ∷ lent_struct 0 imm T.type ∷ words (named 1) imm ∷ words (named 2) imm ∷ words (named 3) imm ∷ word ∷ word ∷ lent_struct 4 mut N.type ∷ struct N.type ∷ struct T.type ∷ [])
       (seq (reads_struct 9 1 T.type)
       (seq (call n (whole_of 9 ∷ whole_of 2 ∷ whole_of 3 ∷ whole_of 4 ∷ whole_of 5 ∷ whole_of 6 ∷ []) (place 8 []))
@@ -24,11 +25,9 @@ module _ (T N : Lendable) where
       (seq (assign (place 0 []) (rv_opd opd_unit)) return))))
 
   module _ {M : Type 1} {𝓤 : Ura M} (𝓛 : Logic 𝓤) (c : Clauses 𝓤 (lent passing)) (k : Clauses 𝓤 (callee passing)) where
-    open 𝓛 use {A}
-
     walk : Walks passing 𝓛 c k asking
     walk κs qs a g g' n C Λ fm known free enough are =
-        qed 𝓛 ((‵ (flft κs.0 qs.0) ⊛ raw (toks 𝓤 A 4 κs.1 qs.1)) ∷ ‵ (held passing κs a) ∷ []) ∵
+        qed 𝓛 ((‵ (flft κs.0 qs.0) ⊛ raw (toks 𝓛 4 κs.1 qs.1)) ∷ ‵ (held passing κs a) ∷ []) ∵
         apart-shared ! (row T.type) (row N.type) (named 4) 3 κs.1 qs.1 (words_of (parts_in passing κs a))
         a.0 a.1.1.1.1.1.1.0 $
         -- [the record's borrow, token; what the words own; their tokens; the answer's obs, borrow, token]

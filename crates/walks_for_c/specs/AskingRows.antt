@@ -1,5 +1,6 @@
 -- For C, a call that only reads, with four numbers: a slice of words is lent to be read, and no record.
-use Rattle.walks.specs.Tools.{refl, [], ◌∷◌, Ura, Name, Fn, named, mut, imm, w64, place, opd_unit, rv_opd, seq, assign, call, return, toks, ‵, raw, ◌$◌, ◌∵◌, !, qed, move, look, init, of_opd, unit_lit, and_then, no_more, returns, enter, alloc1, alloc0, params1, pass1, pass0, free0, u64, unit, uint_Lawful, shr_slice_Lawful, plain, row, Clauses, called, landed, copied, sets, freed, stores-whole, apart-last, given-back-last, Lendable, nothing, function, lent_struct, struct, words, word, whole_of, stores_local, mut_struct, shr_slice, number, before_last, Passing, lent, callee, held, parts_in, said_out, sent, Walks, Passes, passes, ends}
+use Rattle.std.specs.Prelude.{refl, [], ◌∷◌}
+use Rattle.walks.specs.Tools.{Ura, Callee, Fn, named, mut, imm, w64, place, opd_unit, rv_opd, seq, assign, call, return, toks, ‵, raw, ◌$◌, ◌∵◌, !, qed, move, look, init, of_opd, unit_lit, and_then, no_more, returns, enter, alloc1, alloc0, params1, pass1, pass0, free0, u64, unit, uint_Lawful, shr_slice_Lawful, plain, row, Clauses, called, landed, copied, sets, freed, stores-whole, apart-last, given-back-last, Lendable, nothing, function, lent_struct, struct, words, word, whole_of, stores_local, mut_struct, shr_slice, number, before_last, Passing, lent, callee, held, parts_in, said_out, sent, Walks, Passes, passes, ends}
 use denote.Struct.Laws as LL
 use types.Logic.{Logic}
 
@@ -16,18 +17,16 @@ module _ (N : Lendable) where
   }
 
   -- the code, with the name of the one that it calls
-  abbrev pub asking : Name → Fn
+  abbrev pub asking : Callee → Fn
   asking n = function 2 6 (nothing ∷ word ∷ word ∷ words (named 0) imm ∷ word ∷ word ∷ lent_struct 1 mut N.type ∷ struct N.type ∷ [])
       (seq (call n (whole_of 1 ∷ whole_of 2 ∷ whole_of 3 ∷ whole_of 4 ∷ whole_of 5 ∷ []) (place 7 []))
       (seq (stores_local 6 N.type 7)
       (seq (assign (place 0 []) (rv_opd opd_unit)) return)))
 
   module _ {M : Type 1} {𝓤 : Ura M} (𝓛 : Logic 𝓤) (c : Clauses 𝓤 (lent passing)) (k : Clauses 𝓤 (callee passing)) where
-    open 𝓛 use {A}
-
     walk : Walks passing 𝓛 c k asking
     walk κs qs a g g' n C Λ fm known free enough are =
-        qed 𝓛 (raw (toks 𝓤 A 2 κs qs) ∷ ‵ (held passing κs a) ∷ []) ∵
+        qed 𝓛 (raw (toks 𝓛 2 κs qs) ∷ ‵ (held passing κs a) ∷ []) ∵
         apart-last ! (row N.type) (named 1) 1 κs qs (parts_in passing κs a) a.1.1.1.1.1.0 $
         -- [what the words own; their token; the answer's obs, borrow, token]
         enter ! C Λ (asking n) _ _ $

@@ -1,5 +1,6 @@
 -- For C, a call that writes a file, with two numbers: a slice of words and one of bytes are lent to be read, and no record.
-use Rattle.walks.specs.Tools.{refl, [], ◌∷◌, Ura, Name, Fn, named, erased, mut, imm, w8, w64, place, opd_unit, rv_opd, seq, assign, call, return, toks, ‵, raw, ◌$◌, ◌∵◌, !, qed, move, look, init, stop, hop, fld, from, addr, of_opd, unit_lit, and_then, no_more, returns, enter, alloc1, alloc0, params1, pass1, pass0, free0, agg, whole, sub, look_in, u8, u64, unit, uint_Lawful, shr_slice_Lawful, mut_slice_Lawful, plain, row, Clauses, called, landed, copied, field-of, sets, freed, stores-whole, apart-last, given-back-last, Lendable, nothing, function, lent_struct, struct, slice_of, words, bytes, word, pointer_to, whole_of, takes_address_of, makes_slice, stores_local, mut_struct, mut_slice, shr_slice, number, before_last, Passing, lent, callee, held, parts_in, said_out, sent, Walks, Passes, passes, ends}
+use Rattle.std.specs.Prelude.{refl, [], ◌∷◌}
+use Rattle.walks.specs.Tools.{Ura, Callee, Fn, named, erased, mut, imm, w8, w64, place, opd_unit, rv_opd, seq, assign, call, return, toks, ‵, raw, ◌$◌, ◌∵◌, !, qed, move, look, init, stop, hop, fld, from, addr, of_opd, unit_lit, and_then, no_more, returns, enter, alloc1, alloc0, params1, pass1, pass0, free0, agg, whole, sub, look_in, u8, u64, unit, uint_Lawful, shr_slice_Lawful, mut_slice_Lawful, plain, row, Clauses, called, landed, copied, field-of, sets, freed, stores-whole, apart-last, given-back-last, Lendable, nothing, function, lent_struct, struct, slice_of, words, bytes, word, pointer_to, whole_of, takes_address_of, makes_slice, stores_local, mut_struct, mut_slice, shr_slice, number, before_last, Passing, lent, callee, held, parts_in, said_out, sent, Walks, Passes, passes, ends}
 use denote.Struct.Laws as LL
 use types.Logic.{Logic}
 
@@ -16,7 +17,7 @@ module _ (N : Lendable) where
   }
 
   -- the code, with the name of the one that it calls
-  abbrev pub writing : Name → Fn
+  abbrev pub writing : Callee → Fn
   writing n = function 4 6 (nothing ∷ word ∷ word ∷ words (named 0) imm ∷ bytes (named 1) ∷ slice_of w8 (named 2) mut ∷ lent_struct 3 mut N.type ∷ struct N.type ∷ pointer_to w8 ∷ slice_of w8 erased mut ∷ [])
       (seq (takes_address_of w8 8 5)
       (seq (makes_slice 9 8 5)
@@ -25,11 +26,9 @@ module _ (N : Lendable) where
       (seq (assign (place 0 []) (rv_opd opd_unit)) return)))))
 
   module _ {M : Type 1} {𝓤 : Ura M} (𝓛 : Logic 𝓤) (c : Clauses 𝓤 (lent passing)) (k : Clauses 𝓤 (callee passing)) where
-    open 𝓛 use {A}
-
     walk : Walks passing 𝓛 c k writing
     walk κs qs a g g' n C Λ fm known free enough are =
-        qed 𝓛 (raw (toks 𝓤 A 4 κs qs) ∷ ‵ (held passing κs a) ∷ []) ∵
+        qed 𝓛 (raw (toks 𝓛 4 κs qs) ∷ ‵ (held passing κs a) ∷ []) ∵
         apart-last ! (row N.type) (named 3) 3 κs qs (parts_in passing κs a) a.1.1.1.1.1.0 $
         -- [what the words own; their tokens; the answer's obs, borrow, token]
         enter ! C Λ (writing n) _ _ $

@@ -8,57 +8,44 @@ use Rattle.call_logs.proofs.OfReplay.Loop.{Going, going_start, going_on, going_e
 use Rattle.call_logs.proofs.replay.Statement.{statement}
 use Rattle.call_logs.proofs.replay.Tie as tie
 
-abbrev invariant-loop : tie.invariant-loop
+abbrev invariant-loop : tie.invariant-loop-i
 invariant-loop rows₀ list₀ background calls answers₀ count current₀ i₀ rows list answers current i =
     Going background calls current₀ (log_words rows₀ list₀ answers₀) current (log_words rows list answers) i
 
-abbrev decreases-loop : tie.decreases-loop
+abbrev decreases-loop : tie.decreases-loop-i
 decreases-loop rows₀ list₀ background calls answers₀ count current₀ i₀ rows list answers current i = count - i
 
--- the call made, and the turn of the loop that it is made in
-abbrev made : tie.After-write-answer invariant-loop decreases-loop → tie.After-replay-one invariant-loop decreases-loop
-made c =
-    let d = c.before.before.before.before in
-    d.before.before.before
-
-abbrev turn : tie.After-write-answer invariant-loop decreases-loop → tie.In-loop invariant-loop decreases-loop
-turn c =
-    let d = (made c).before.before.before.before in
-    d.before.before.before
-
 -- the count of the calls made fits in a word
-fits : (c : tie.In-loop invariant-loop decreases-loop) → c.before.loop.i + 1 < 18446744073709551616
+fits : (c : tie.In-loop-i invariant-loop decreases-loop) → c.loop-i.i + 1 < 18446744073709551616
 fits c = omega arith
 
-returns : tie.Need-returns invariant-loop decreases-loop
-returns c = record { short = c.if1.true; same_record = refl; same_words = refl }
+returns : tie.Need-returns-then-answers-count invariant-loop decreases-loop
+returns c = record { short = c.if-answers-count.true; same_record = refl; same_words = refl }
 
-loop-holds : tie.Need-loop-init invariant-loop decreases-loop
+loop-holds : tie.Need-loop-i-init invariant-loop decreases-loop
 loop-holds c = going_start _ _ _ _
 
-write-answer-requires : tie.Need-write-answer-requires invariant-loop decreases-loop
+write-answer-requires : tie.Need-write_answer-requires invariant-loop decreases-loop
 write-answer-requires c κs = omega arith
 
-add-i : tie.Need-overflow-add-i invariant-loop decreases-loop
-add-i c = omega (arith, fits (turn c.before.before.before))
+add-i : tie.Need-overflow_add-i invariant-loop decreases-loop
+add-i c = omega (arith, fits c.before.before.before.before.before.before.before.before.before.before.before.before.before.before.before.before.before)
 
-loop-less : tie.Need-loop-smaller invariant-loop decreases-loop
+loop-less : tie.Need-loop-i-smaller invariant-loop decreases-loop
 loop-less c = omega arith
 
-loop-again : tie.Need-loop-preserved invariant-loop decreases-loop
+loop-again : tie.Need-loop-i-preserved invariant-loop decreases-loop
 loop-again c =
-    let w = c.before.before.before in
-    let d = turn w in
-    let l = d.before.loop in
-    let called = (made w).replay-one in
-    going_on _ _ _ _ l.current (log_words l.rows l.list l.answers) l.i l.inv d.loop-test.taken (omega arith)
-    called.result.answer _ _ _ _ called.ensures w.write-answer.ensures
+    let l = c.loop-i in
+    let called = c.replay_one-turn in
+    going_on _ _ _ _ l.current (log_words l.rows l.list l.answers) l.i l.invariant c.loop-i-test.true (omega arith)
+    called.result.answer _ _ _ _ called.ensures c.write_answer.ensures
 
-returns-2 : tie.Need-returns-2 invariant-loop decreases-loop
-returns-2 c = let l = c.before.loop in going_end _ _ _ _ _ _ l.i l.invariant c.loop-test.false
+returns-2 : tie.Need-returns invariant-loop decreases-loop
+returns-2 c = let l = c.loop-i in going_end _ _ _ _ _ _ l.i l.invariant c.loop-i-test.false
 
-pub replay-spec : {M : Type 1} → statement M
-replay-spec =
+pub replay_spec : {M : Type 1} → statement M
+replay_spec =
     tie.close
     (tie.spec
     invariant-loop

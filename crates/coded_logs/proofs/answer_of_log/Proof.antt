@@ -5,14 +5,14 @@ use Rattle.call_logs.specs.Replay.{code_of_log}
 use Rattle.coded_logs.proofs.answer_of_log.Statement.{statement}
 use Rattle.coded_logs.proofs.answer_of_log.Tie as tie
 
-returns : tie.Need-returns
-returns c = c.in_words_lem.ensures ∙ sym (ap code_of_log c.before.enum_told.given.1)
+returns : tie.Need-returns-in-Replayed
+returns c = c.in_words.ensures ∙ sym (ap code_of_log c.in-Replayed.is)
 
-returns-2 : tie.Need-returns-2
-returns-2 c = c.in-words2.ensures ∙ sym (ap code_of_log c.before.enum-told2.given.1)
+returns-2 : tie.Need-returns-in-Short
+returns-2 c = c.in_words-in-Short.ensures ∙ sym (ap code_of_log c.in-Short.is)
 
-pub answer-of-log-spec : {M : Type 1} → statement M
-answer-of-log-spec =
+pub answer_of_log_spec : {M : Type 1} → statement M
+answer_of_log_spec =
     tie.close
     (tie.spec
     (λ c. search rules)

@@ -6,7 +6,7 @@ use Rattle.coded_names.proofs.object_name.Statement.{statement}
 use Rattle.coded_names.proofs.object_name.Tie as tie
 
 returns : tie.Need-returns
-returns c = c.answer-of-span.ensures ∙ ap code_of_span c.before.object-span.ensures
+returns c = c.answer_of_span.ensures ∙ ap code_of_span c.object_span.ensures
 
-pub object-name-spec : {M : Type 1} → statement M
-object-name-spec = tie.close (tie.spec (λ c κs. search rules) (λ c κs. search rules) returns)
+pub object_name_spec : {M : Type 1} → statement M
+object_name_spec = tie.close (tie.spec (λ c κs. search rules) (λ c κs. search rules) returns)

@@ -14,17 +14,21 @@ said : (o o' : Opened) (before : Layout) (x : Coded) (after : Layout) (changed :
     → FindsTable o before x after changed
 said o o' before x after changed e f = subst (λ y. FindsTable y before x after changed) (sym e) f
 
-returns : tie.Need-returns
+returns : tie.Need-returns-in-Found
 returns c =
-    let d = c.before.before in
-    said _ _ _ _ _ _ d.opened.given.1 (record { opens = record { answer = c.in_words_lem.ensures; layout = refl }; change = refl })
+    said _ _ _ _ _ _ c.in-Found.is (record { opens = record { answer = c.in_words.ensures; layout = refl }; change = refl })
 
-returns-2 : tie.Need-returns-2
+returns-2 : tie.Need-returns-in-Refused
 returns-2 c =
-    let d = c.before.before in
-    said _ _ _ _ _ _ d.opened2.given.1 (record { opens = record { answer = c.answer-of-refusal.ensures; layout = refl }; change = refl })
+    said _ _ _ _ _ _ c.in-Refused.is (record { opens = record { answer = c.answer_of_refusal.ensures; layout = refl }; change = refl })
 
-pub found-as-spec : {M : Type 1} → statement M
-found-as-spec =
+pub found_as_spec : {M : Type 1} → statement M
+found_as_spec =
     tie.close
-    (tie.spec (λ c. search rules) (λ c κs. search rules) (λ c. search rules) (λ c κs. search rules) returns returns-2)
+    (tie.spec
+    (λ c. search rules)
+    (λ c κs. search rules)
+    (λ c. search rules)
+    (λ c κs. search rules)
+    returns
+    returns-2)

@@ -9,8 +9,8 @@ use Rattle.coded_tables.proofs.open_complete.Tie as tie
 returns : tie.Need-returns
 returns c =
     let r = c.found_as.result in
-    let layout = c.before.before.before.args.layout in
-    subst (λ (o : Opened). FindsTable o layout r.answer r.layout r.changed) c.before.open-complete.ensures c.found_as.ensures
+    let layout = c.args.layout in
+    subst (λ (o : Opened). FindsTable o layout r.answer r.layout r.changed) c.open_complete-opened.ensures c.found_as.ensures
 
-pub open-complete-spec : {M : Type 1} → statement M
-open-complete-spec = tie.close (tie.spec (λ c κs. search rules) (λ c κs. search rules) returns)
+pub open_complete_spec : {M : Type 1} → statement M
+open_complete_spec = tie.close (tie.spec (λ c κs. search rules) (λ c κs. search rules) returns)

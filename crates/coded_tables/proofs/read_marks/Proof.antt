@@ -18,20 +18,18 @@ said o r v file words words' x e f g h = record {
   written = h ∙ ap (λ y. words_of_rows y file words) e;
 }
 
-returns : tie.Need-returns
+returns : tie.Need-returns-in-Found
 returns c =
-    let e = c.before in
-    let d = e.before.before.before.before.read-marks-of in
-    said _ _ _ _ _ _ _ d.ensures.0 e.enum_told.given.1 c.in_words_lem.ensures d.ensures.1
+    let d = c.read_marks_of-opened in
+    said _ _ _ _ _ _ _ d.ensures.0 c.in-Found.is c.in_words.ensures d.ensures.1
 
-returns-2 : tie.Need-returns-2
+returns-2 : tie.Need-returns-in-Refused
 returns-2 c =
-    let e = c.before.before in
-    let d = e.before.before.before.before.read-marks-of in
-    said _ _ _ _ _ _ _ d.ensures.0 e.opened.given.1 c.answer-of-refusal.ensures d.ensures.1
+    let d = c.read_marks_of-opened in
+    said _ _ _ _ _ _ _ d.ensures.0 c.in-Refused.is c.answer_of_refusal.ensures d.ensures.1
 
-pub read-marks-spec : {M : Type 1} → statement M
-read-marks-spec =
+pub read_marks_spec : {M : Type 1} → statement M
+read_marks_spec =
     tie.close
     (tie.spec
     (λ c κs. search rules)

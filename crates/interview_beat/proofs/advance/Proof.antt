@@ -6,60 +6,31 @@ use borrow.Author.Rules.{rules}
 use Rattle.interview_beat.proofs.advance.Statement.{statement}
 use Rattle.interview_beat.proofs.advance.Tie as tie
 
--- the places: the start; behind the end; behind the reply; where M is not reached; where the next set is found
-abbrev start : tie.After-full-set → tie.Start
-start c = let known = c.before.before in known.before.before.before
-
-abbrev ended : tie.After-slice-known4 → tie.After-finish
-ended c = c.before.before
-
-abbrev finished : tie.After-finish → tie.Then1
-finished c = c.before.before.before.before
-
-abbrev below : tie.After-reach-of → tie.Else1
-below c = c.before.before
-
-abbrev replied : tie.After-slice-known7 → tie.After-reply
-replied c = let known = c.before.before.before in known.before.before.before
-
-abbrev asked : tie.After-reply → tie.After-difference
-asked c = c.before.before.before.before
-
-abbrev moved : tie.After-next-of → tie.Else2
-moved c = c.before.before.before
-
-returns : tie.Need-returns
+returns : tie.Need-returns-then-current-full_set
 returns c =
-    let d = finished (ended c) in
-    let a = (start d.before).args in
-    λ fits. beat-end a.interview a.rows.now a.list.now a.objects a.table.now fits d.before.full-set.result d.before.full-set.ensures
-    _ d.if1.taken ((ended c).finish.ensures fits.in_list)
+    let a = c.args in
+    λ fits. beat-end a.interview a.rows.now a.list.now a.objects a.table.now fits c.full_set.result c.full_set.ensures
+    _ c.if-current-full_set.true (c.finish.ensures fits.in_list)
 
-returns-2 : tie.Need-returns-2
+returns-2 : tie.Need-returns-then-reach-current
 returns-2 c =
-    let q = asked (replied c) in
-    let reach = q.before.before in
-    let full = (below reach).before in
-    let a = (start full).args in
+    let a = c.args in
     let i = a.interview in
     λ fits. leaves-same
-    (beat-reply i a.rows.now a.list.now a.objects a.table.now fits full.full-set.result full.full-set.ensures
-    reach.reach_of.result (below reach).if1.left reach.reach_of.ensures q.difference.result q.difference.ensures q.before.if2.taken)
-    ((replied c).reply.ensures fits)
+    (beat-reply i a.rows.now a.list.now a.objects a.table.now fits c.full_set.result c.full_set.ensures
+    c.reach_of-reach.result c.if-current-full_set.false c.reach_of-reach.ensures c.difference-conclusion.result c.difference-conclusion.ensures c.if-reach-current.true)
+    (c.reply.ensures fits)
 
-returns-3 : tie.Need-returns-3
+returns-3 : tie.Need-returns
 returns-3 c =
-    let d = moved c.before in
-    let reach = d.before in
-    let full = (below reach).before in
-    let a = (start full).args in
+    let a = c.args in
     let i = a.interview in
-    λ fits. beat-move i a.rows.now a.list.now a.objects a.table.now fits full.full-set.result full.full-set.ensures
-    reach.reach_of.result (below reach).if1.left reach.reach_of.ensures a.at (page a.out.now a.at)
-    c.before.next_of.result c.count-change.result d.if2.left c.before.next_of.ensures c.count-change.ensures
+    λ fits. beat-move i a.rows.now a.list.now a.objects a.table.now fits c.full_set.result c.full_set.ensures
+    c.reach_of-reach.result c.if-current-full_set.false c.reach_of-reach.ensures a.at (page a.out.now a.at)
+    c.next_of.result c.count_change.result c.if-reach-current.false c.next_of.ensures c.count_change.ensures
 
-pub advance-spec : {M : Type 1} → statement M
-advance-spec =
+pub advance_spec : {M : Type 1} → statement M
+advance_spec =
     tie.close
     (tie.spec
     (λ c κs. search rules)

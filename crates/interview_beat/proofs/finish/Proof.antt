@@ -7,21 +7,11 @@ use borrow.Author.Rules.{rules}
 use Rattle.interview_beat.proofs.finish.Statement.{statement}
 use Rattle.interview_beat.proofs.finish.Tie as tie
 
--- the places: the start; behind the list; behind the totals
-abbrev start : tie.After-put-list → tie.Start
-start c = let known = c.before.before in known.before.before.before
-
-abbrev ended : tie.After-slice-known3 → tie.After-put-end
-ended c = c.before.before
-
-abbrev listed : tie.After-put-end → tie.After-put-list
-listed c = c.before.before.before.before
-
 returns : tie.Need-returns
 returns c =
-    let a = (start (listed (ended c))).args in
+    let a = c.args in
     let p = page a.out.now a.at in
-    λ h. text-on p _ _ (listed (ended c)).put-list.ensures (ended c).put-end.ensures
+    λ h. text-on p _ _ c.put_list-end.ensures c.put_end.ensures
     ∙ ap (text p) (closing-is a.interview a.rows.now a.list.now h)
 
 pub finish_spec : {M : Type 1} → statement M

@@ -4,42 +4,39 @@ use Rattle.logged_calls.proofs.CallKinds.Laws.{call-unknown, kind-step, kind-yes
 use Rattle.logged_calls.proofs.replay_one.Statement.{statement}
 use Rattle.logged_calls.proofs.replay_one.Tie as tie
 
-returns : tie.Need-returns
-returns c = let d = c in of-kind _ 0 _ _ _ d.before.before.before.if1.true (kind-step _ _ _) d.step.ensures.made
+returns : tie.Need-returns-then-kind-eq-STEP
+returns c = of-kind _ 0 _ _ _ c.if-kind-eq-STEP.true (kind-step _ _ _) c.step.ensures.made
 
-returns-2 : tie.Need-returns-2
-returns-2 c = let d = c.before.before in of-kind _ 1 _ _ _ d.before.before.before.if2.true (kind-yes _ _ _) d.accept.ensures.made
+returns-2 : tie.Need-returns-then-kind-eq-YES
+returns-2 c = of-kind _ 1 _ _ _ c.if-kind-eq-YES.true (kind-yes _ _ _) c.accept.ensures.made
 
-returns-3 : tie.Need-returns-3
-returns-3 c = let d = c.before.before in of-kind _ 2 _ _ _ d.before.before.before.if3.true (kind-no _ _ _) d.reject.ensures.made
+returns-3 : tie.Need-returns-then-kind-eq-NO
+returns-3 c = of-kind _ 2 _ _ _ c.if-kind-eq-NO.true (kind-no _ _ _) c.reject.ensures.made
 
-returns-4 : tie.Need-returns-4
-returns-4 c = let d = c in of-kind _ 3 _ _ _ d.before.before.before.if4.true (kind-follows _ _ _) d.follows.ensures
+returns-4 : tie.Need-returns-then-kind-eq-FOLLOWS
+returns-4 c = of-kind _ 3 _ _ _ c.if-kind-eq-FOLLOWS.true (kind-follows _ _ _) c.follows.ensures
 
-returns-5 : tie.Need-returns-5
-returns-5 c = let d = c in of-kind _ 4 _ _ _ d.before.before.before.if5.true (kind-refuted _ _ _) d.refuted.ensures
+returns-5 : tie.Need-returns-then-kind-eq-REFUTED
+returns-5 c = of-kind _ 4 _ _ _ c.if-kind-eq-REFUTED.true (kind-refuted _ _ _) c.refuted.ensures
 
-returns-6 : tie.Need-returns-6
-returns-6 c = let d = c in of-kind _ 5 _ _ _ d.before.before.before.if6.true (kind-test _ _ _) d.test-row.ensures
+returns-6 : tie.Need-returns-then-kind-eq-TEST
+returns-6 c = of-kind _ 5 _ _ _ c.if-kind-eq-TEST.true (kind-test _ _ _) c.test_row.ensures
 
-returns-7 : tie.Need-returns-7
-returns-7 c = let d = c.before.before in of-kind _ 6 _ _ _ d.before.before.before.if7.true (kind-filing _ _ _) d.file-row.ensures.made
+returns-7 : tie.Need-returns-then-kind-eq-FILE
+returns-7 c = of-kind _ 6 _ _ _ c.if-kind-eq-FILE.true (kind-filing _ _ _) c.file_row.ensures.made
 
-returns-8 : tie.Need-returns-8
-returns-8 c = let d = c.before.before in of-kind _ 7 _ _ _ d.before.before.before.if8.true (kind-filling _ _ _) d.fill-row.ensures
+returns-8 : tie.Need-returns-then-kind-eq-FILL
+returns-8 c = of-kind _ 7 _ _ _ c.if-kind-eq-FILL.true (kind-filling _ _ _) c.fill_row.ensures
 
-returns-9 : tie.Need-returns-9
+returns-9 : tie.Need-returns
 returns-9 c =
-    let eighth = c.before in
-    let d = eighth.before in
-    let fifth = d.before.before in
     of-unknown _ _ _ _ _ _
-    (call-unknown _ _ _ _ fifth.before.before.before.before.if1.false fifth.before.before.before.if2.false fifth.before.before.if3.false
-    fifth.before.if4.false fifth.if5.false d.before.if6.false d.if7.false eighth.if8.false)
-    c.in_words_lem.ensures
+    (call-unknown _ _ _ _ c.if-kind-eq-STEP.false c.if-kind-eq-YES.false c.if-kind-eq-NO.false
+    c.if-kind-eq-FOLLOWS.false c.if-kind-eq-REFUTED.false c.if-kind-eq-TEST.false c.if-kind-eq-FILE.false c.if-kind-eq-FILL.false)
+    c.in_words.ensures
 
-pub replay-one-spec : {M : Type 1} → statement M
-replay-one-spec =
+pub replay_one_spec : {M : Type 1} → statement M
+replay_one_spec =
     tie.close
     (tie.spec
     (λ c κs. search rules)

@@ -21,43 +21,33 @@ listed : (n used : ℕ) (words : List ℕ) (premise percent : ℕ) {set : ℕ} �
     → (InRange n used (length words) percent → set ≡ nearly_always n percent (objects_of used words) premise) → Listed set ≡ listing n used words premise percent
 listed n used words premise percent e right = rw (e, right (in_range n used words premise percent e))
 
--- the places: the start, and the verdict where the checks pass
-abbrev start : tie.After-earlier → tie.Start
-start c = let rows = c.before.before in rows.before.before
-
-abbrev verdict : tie.After-enum-told → tie.After-earlier
-verdict c = c.before.before
-
 -- the verdict of all checks
-decided : (c : tie.After-earlier)
-    → let a = (start c).args in
-    first_failing (list_checks a.n a.used a.rows.now a.premise a.percent) ≡ verdict_of c.earlier.result
+decided : (c : tie.After-earlier-checked)
+    → let a = c.args in
+    first_failing (list_checks a.n a.used a.rows.now a.premise a.percent) ≡ verdict_of c.earlier-checked.result
 decided c =
-    let a = (start c).args in
-    let within = c.before in
-    sym (c.earlier.ensures ∙ ap₂ first_of within.before.check-rows-with.ensures within.check-percent.ensures
+    let a = c.args in
+    sym (c.earlier-checked.ensures ∙ ap₂ first_of c.check_rows_with-marked.ensures c.check_percent-within.ensures
     ∙ list-checked a.n a.used a.rows.now a.premise a.percent)
 
-passing : (c : tie.After-enum-told)
-    → let a = (start (verdict c)).args in
+passing : (c : tie.In-Passed)
+    → let a = c.args in
     first_failing (list_checks a.n a.used a.rows.now a.premise a.percent) ≡ none
-passing c = decided (verdict c) ∙ ap verdict_of c.enum_told.given.1
+passing c = decided c.before ∙ ap verdict_of c.in-Passed.is
 
-returns : tie.Need-returns
+returns : tie.Need-returns-in-Refused
 returns c =
-    let d = c.before.before.before in
-    let a = (start d).args in
+    let a = c.args in
     let set = nearly_always a.n a.percent (objects_of a.used a.rows.now) a.premise in
-    sym (ap (λ o. listed_by o set) (decided d ∙ ap verdict_of c.before.checked.given.1))
+    sym (ap (λ o. listed_by o set) (decided c.before ∙ ap verdict_of c.in-Refused.is))
 
-returns-2 : tie.Need-returns-2
+returns-2 : tie.Need-returns-in-Passed
 returns-2 c =
-    let t = c.before in
-    let a = (start (verdict t)).args in
-    listed a.n a.used a.rows.now a.premise a.percent (passing t) c.nearly-always.ensures.in_range
+    let a = c.args in
+    listed a.n a.used a.rows.now a.premise a.percent (passing c.before) c.nearly_always.ensures.in_range
 
-pub list-nearly-spec : {M : Type 1} → statement M
-list-nearly-spec =
+pub list_nearly_spec : {M : Type 1} → statement M
+list_nearly_spec =
     tie.close
     (tie.spec
     (λ c κs. search rules)

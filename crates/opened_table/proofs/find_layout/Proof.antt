@@ -4,7 +4,7 @@ use Rattle.opened_table.proofs.find_layout.Statement.{statement}
 use Rattle.opened_table.proofs.find_layout.Tie as tie
 
 returns : tie.Need-returns
-returns c = let opens = c.before.before.«open».ensures.opens in (opens.answer, opens.layout)
+returns c = let opens = c.open-found.ensures.opens in (opens.answer, opens.layout)
 
-pub find-layout-spec : {M : Type 1} → statement M
-find-layout-spec = tie.close (tie.spec (λ c κs. search rules) returns)
+pub find_layout_spec : {M : Type 1} → statement M
+find_layout_spec = tie.close (tie.spec (λ c κs. search rules) returns)

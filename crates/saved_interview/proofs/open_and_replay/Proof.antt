@@ -8,38 +8,23 @@ use Rattle.saved_interview.proofs.TakingUp.Theorem.{refused-outcome, replay-outc
 use Rattle.saved_interview.proofs.open_and_replay.Statement.{statement}
 use Rattle.saved_interview.proofs.open_and_replay.Tie as tie
 
-abbrev words_lent : tie.After-open → tie.After-slice-known2
-words_lent c = let d = c.before.before.before in d.before.before.before
-
-abbrev start : tie.After-open → tie.Start
-start c = (words_lent c).before.before
-
 -- the machine's opening, by what the call gave
-opening : (c : tie.After-open) (x : Opened) → c.«open».result ≡ x
-    → let a = (start c).args in
+opening : (c : tie.After-open-opened) (x : Opened) → c.open-opened.result ≡ x
+    → let a = c.args in
     opening_of x a.rows.now a.list.now a.background.now ≡ opening_from a.n a.used a.rows.now a.list.now a.background.now
-opening c x e = rw e at c.«open».ensures
+opening c x e = rw e at c.open-opened.ensures
 
-abbrev replayed : tie.After-after → tie.After-replay
-replayed c = let d = c.before.before.before.before in d.before.before.before
-
-abbrev found : tie.After-replay → tie.After-opened
-found c = let d = c.before.before.before in d.before.before
-
-returns : tie.Need-returns
+returns : tie.Need-returns-in-Refused
 returns c =
-    let d = c.before.before in
-    refused-outcome _ _ _ _ _ _ _ _ _ (opening d.before.before _ d.opened2.given.1) c.answer-of-refusal.ensures
+    refused-outcome _ _ _ _ _ _ _ _ _ (opening c.before.before _ c.in-Refused.is) c.answer_of_refusal.ensures
 
-returns-2 : tie.Need-returns-2
+returns-2 : tie.Need-returns
 returns-2 c =
-    let r = replayed c.before in
-    let o = found r in
-    replay-outcome _ _ _ _ _ _ _ _ _ _ o.opened.given.0.0 _ r.replay.result.log (opening o.before.before _ o.opened.given.1)
-    r.replay.ensures c.turn-after.ensures
+    replay-outcome _ _ _ _ _ _ _ _ _ _ c.in-Open.start _ c.replay-replayed.result.log (opening c.before.before.before.before.before.before.before.before.before.before.before.before.before _ c.in-Open.is)
+    c.replay-replayed.ensures c.turn_after.ensures
 
-pub open-and-replay-spec : {M : Type 1} → statement M
-open-and-replay-spec =
+pub open_and_replay_spec : {M : Type 1} → statement M
+open_and_replay_spec =
     tie.close
     (tie.spec
     (λ c κs. search rules)

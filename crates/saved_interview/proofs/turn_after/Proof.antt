@@ -6,20 +6,20 @@ use Rattle.saved_interview.specs.TakingUp.{TurnAfter}
 use Rattle.saved_interview.proofs.turn_after.Statement.{statement}
 use Rattle.saved_interview.proofs.turn_after.Tie as tie
 
-returns : tie.Need-returns
+returns : tie.Need-returns-in-Replayed
 returns c =
-    let a = c.before.before.before.args in
-    subst (λ log. TurnAfter a.session log a.after c.in_words_lem.result a.after true) (sym c.before.enum_told.given.1)
-    (c.in_words_lem.ensures, (refl, refl))
+    let a = c.args in
+    subst (λ log. TurnAfter a.session log a.after c.in_words.result a.after true) (sym c.in-Replayed.is)
+    (c.in_words.ensures, (refl, refl))
 
-returns-2 : tie.Need-returns-2
+returns-2 : tie.Need-returns-in-Short
 returns-2 c =
-    let a = c.before.before.before.args in
-    subst (λ log. TurnAfter a.session log a.after c.in-words2.result a.session false) (sym c.before.enum-told2.given.1)
-    (c.in-words2.ensures, (refl, refl))
+    let a = c.args in
+    subst (λ log. TurnAfter a.session log a.after c.in_words-in-Short.result a.session false) (sym c.in-Short.is)
+    (c.in_words-in-Short.ensures, (refl, refl))
 
-pub turn-after-spec : {M : Type 1} → statement M
-turn-after-spec =
+pub turn_after_spec : {M : Type 1} → statement M
+turn_after_spec =
     tie.close
     (tie.spec
     (λ c. search rules)

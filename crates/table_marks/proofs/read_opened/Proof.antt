@@ -19,14 +19,14 @@ use Rattle.table_marks.proofs.read_opened.Statement.{statement}
 use Rattle.table_marks.proofs.read_opened.Tie as tie
 
 -- the lines of marks of the table pass
-marked : (c : tie.In-Found-2)
+marked : (c : tie.In-Found)
     → let l = c.in-Found.layout in
     let f = c.args.file.now in
     (l.attributes ≤ most_attributes) × (l.marks ≤ length f) × Passes (walk (replicate l.objects (Marks l.attributes)) f l.marks)
 marked c = table-marks _ _ (c.requires _ c.in-Found.is)
 
 -- and its parts begin inside the file
-inside : (c : tie.In-Found-2)
+inside : (c : tie.In-Found)
     → let l = c.in-Found.layout in
     let f = c.args.file.now in
     (l.object_names ≤ length f) × (l.attribute_names ≤ length f) × (l.marks ≤ length f)
@@ -46,14 +46,14 @@ returns-2 c =
     )
 
 sub-read-rows : tie.Need-slice_bounds-read_rows-count
-sub-read-rows c = omega (arith, inside c)
+sub-read-rows c = omega (arith, inside c.before.before)
 
 part-read-rows-start : tie.Need-slice_bounds-read_rows-start
-part-read-rows-start c = omega (arith, inside c)
+part-read-rows-start c = omega (arith, inside c.before.before)
 
 read-rows-requires : tie.Need-read_rows-requires
 read-rows-requires c κs =
-    let m = marked c in
+    let m = marked c.before.before.before.before in
     (omega arith, m.0, passes-from _ _ _ m.2)
 
 returns-3 : tie.Need-returns

@@ -40,7 +40,7 @@ short : (c : tie.In-loop-i invariant-loop decreases-loop)
 short c =
     let l = c.loop-i in
     let a = c.args in
-    let h = length-take-le a.n (drop l.at a.part.now) (omega (arith, (ahead c).ranges, length-drop l.at a.part.now)) in
+    let h = length-take-le a.n (drop l.at a.part.now) (omega (arith, (ahead c).fits, length-drop l.at a.part.now)) in
     rw h c.requires.1
 
 -- the row read is the line's
@@ -58,10 +58,10 @@ loop-holds c =
     reads-start _ _ _ _ c.requires.2
 
 add-end : tie.Need-overflow_add-end invariant-loop decreases-loop
-add-end c = omega (arith, (ahead c).ranges)
+add-end c = omega (arith, (ahead c).fits)
 
 part-row-of-end : tie.Need-slice_bounds-row_of-end invariant-loop decreases-loop
-part-row-of-end c = (ahead c).ranges
+part-row-of-end c = (ahead c).fits
 
 mul-rows : tie.Need-overflow_mul-rows invariant-loop decreases-loop
 mul-rows c = omega (arith, room c.before.before)
@@ -94,7 +94,7 @@ loop-again : tie.Need-loop-i-preserved invariant-loop decreases-loop
 loop-again c =
     let l = c.loop-i in
     rw (c.next_at-at.ensures ∙ (ahead c.before.before.before).behind)
-    (reads_on _ _ _ _ l.rows l.at l.i l.invariant (omega arith) c.pre.0 (object c.row_of-row.result.yes c.row_of-row.result.no)
+    (reads_on _ _ _ _ l.rows l.at l.i l.invariant (omega arith) c.requires.0 (object c.row_of-row.result.yes c.row_of-row.result.no)
     (row c.before))
 
 same_length : tie.Need-shape_of-rows invariant-loop decreases-loop

@@ -12,62 +12,49 @@ use Rattle.table_writing.proofs.Writing.Laws.{long-file, long-output, short-both
 use Rattle.table_writer.proofs.write_named.Statement.{statement}
 use Rattle.table_writer.proofs.write_named.Tie as tie
 
--- the places: the start, and the size that is found
-abbrev start : tie.After-size-of-text → tie.Start
-start c = c.before.before.before.before
-
 -- the text
-abbrev whole : tie.After-size-of-text → List ℕ
-whole c = let a = (start c).args in text_of a.n a.used a.rows.now a.names.now
+abbrev whole : tie.After-size_of_text-size → List ℕ
+whole c = let a = c.args in text_of a.n a.used a.rows.now a.names.now
 
-abbrev room : tie.After-size-of-text → ℕ
-room c = length (start c).args.out.now
+abbrev room : tie.After-size_of_text-size → ℕ
+room c = length c.args.out.now
 
-returns : tie.Need-returns
+returns : tie.Need-returns-then-size-gt-BYTES
 returns c =
-    let d = c.before.before in
-    let s = start d in
-    let a = s.args in
-    let l = long-file (room d) (length (whole d)) (omega (arith, d.size-of-text.ensures, c.before.if1.true)) in
+    let a = c.args in
+    let l = long-file (room c.before.before) (length (whole c.before.before)) (omega (arith, c.size_of_text-size.ensures, c.if-size-gt-BYTES.true)) in
     record {
       answer = ap Refused c.refuse.ensures
-          ∙ sym (long-refused a.n a.used a.rows.now a.names.now (room d) s.pre.0 s.pre.1 l);
+          ∙ sym (long-refused a.n a.used a.rows.now a.names.now (room c.before.before) c.requires.0 c.requires.1 l);
       output = refl;
     }
 
-returns-2 : tie.Need-returns-2
+returns-2 : tie.Need-returns-then-out-size
 returns-2 c =
-    let e = c.before in
-    let d = e.before.before in
-    let s = start d in
-    let a = s.args in
-    let size = d.size-of-text.ensures in
-    let l = long-output (room d) (length (whole d)) (omega (arith, size, e.if2.true)) in
+    let a = c.args in
+    let size = c.size_of_text-size.ensures in
+    let l = long-output (room c.before.before.before) (length (whole c.before.before.before)) (omega (arith, size, c.if-out-size.true)) in
     record {
-      answer = ap Refused c.refuse2.ensures
-          ∙ sym (long-refused a.n a.used a.rows.now a.names.now (room d) s.pre.0 s.pre.1 l);
+      answer = ap Refused c.refuse-then-out-size.ensures
+          ∙ sym (long-refused a.n a.used a.rows.now a.names.now (room c.before.before.before) c.requires.0 c.requires.1 l);
       output = refl;
     }
 
-returns-3 : tie.Need-returns-3
+returns-3 : tie.Need-returns
 returns-3 c =
-    let p = c.before.before in
-    let e = p.before.before in
-    let d = e.before.before in
-    let s = start d in
-    let a = s.args in
-    let size = d.size-of-text.ensures in
-    let text = whole d in
+    let a = c.args in
+    let size = c.size_of_text-size.ensures in
+    let text = whole c.before.before.before.before.before.before in
     let out = a.out.now in
-    let few : length text ≤ length out = omega (arith, size, e.if2.false) in
-    let l = short-both (room d) (length text) (omega (arith, size, e.before.if1.false)) few in
+    let few : length text ≤ length out = omega (arith, size, c.if-out-size.false) in
+    let l = short-both (room c.before.before.before.before.before.before) (length text) (omega (arith, size, c.if-size-gt-BYTES.false)) few in
     record {
-      answer = ap Bytes size ∙ sym (all-written a.n a.used a.rows.now a.names.now (room d) s.pre.0 s.pre.1 l);
-      output = put_first out _ text p.put-table.result d.size-of-text.result p.put-table.ensures size e.if2.false;
+      answer = ap Bytes size ∙ sym (all-written a.n a.used a.rows.now a.names.now (room c.before.before.before.before.before.before) c.requires.0 c.requires.1 l);
+      output = put_first out _ text c.put_table.result c.size_of_text-size.result c.put_table.ensures size c.if-out-size.false;
     }
 
-pub write-named-spec : {M : Type 1} → statement M
-write-named-spec =
+pub write_named_spec : {M : Type 1} → statement M
+write_named_spec =
     tie.close
     (tie.spec
     (λ c κs. search rules)

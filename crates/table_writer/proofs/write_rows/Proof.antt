@@ -9,36 +9,26 @@ use Rattle.table_writing.proofs.Writing.Laws.{name-refused}
 use Rattle.table_writer.proofs.write_rows.Statement.{statement}
 use Rattle.table_writer.proofs.write_rows.Tie as tie
 
--- the places: the start, and the walk over the names
-abbrev start : tie.After-slice-known → tie.Start
-start c = c.before.before.before
-
-add-walk-lines : tie.Need-overflow-add-walk-lines
+add-walk-lines : tie.Need-overflow_add-used
 add-walk-lines c =
-    let s = start c in
-    let a = s.args in
-    omega (arith, rows_fit a.n a.used a.rows.now s.pre)
+    let a = c.args in
+    omega (arith, rows_fit a.n a.used a.rows.now c.requires)
 
-write-named-requires : tie.Need-write-named-requires
+write-named-requires : tie.Need-write_named-requires
 write-named-requires c κs =
-    let told = c.before in
-    let walked = told.before.before in
-    ((start walked.before).requires, ap is_failed (sym walked.walk-lines.ensures ∙ told.enum_told.given.1))
+    (c.requires, ap is_failed (sym c.walk_lines-walked.ensures ∙ c.in-At.is))
 
-returns : tie.Need-returns
+returns : tie.Need-returns-in-Failed
 returns c =
-    let told = c.before in
-    let walked = told.before.before in
-    let s = start walked.before in
-    let a = s.args in
+    let a = c.args in
     record {
-      answer = sym (name-refused a.n a.used a.rows.now a.names.now (length a.out.now) s.pre _
-          (sym walked.walk-lines.ensures ∙ told.walked.given.1));
+      answer = sym (name-refused a.n a.used a.rows.now a.names.now (length a.out.now) c.requires _
+          (sym c.walk_lines-walked.ensures ∙ c.in-Failed.is));
       output = refl;
     }
 
-pub write-rows-spec : {M : Type 1} → statement M
-write-rows-spec =
+pub write_rows_spec : {M : Type 1} → statement M
+write_rows_spec =
     tie.close
     (tie.spec
     add-walk-lines

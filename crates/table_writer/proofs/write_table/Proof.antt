@@ -7,22 +7,20 @@ use Rattle.table_writing.proofs.Writing.Laws.{rows-refused}
 use Rattle.table_writer.proofs.write_table.Statement.{statement}
 use Rattle.table_writer.proofs.write_table.Tie as tie
 
-write-rows-requires : tie.Need-write-rows-requires
-write-rows-requires c κs = let told = c.before in sym told.before.before.check-rows.ensures ∙ ap verdict_of told.enum_told.given.1
+write-rows-requires : tie.Need-write_rows-requires
+write-rows-requires c κs = sym c.check_rows-checked.ensures ∙ ap verdict_of c.in-Passed.is
 
-returns : tie.Need-returns
+returns : tie.Need-returns-in-Refused
 returns c =
-    let told = c.before in
-    let checked = told.before.before in
-    let a = checked.before.before.before.before.args in
+    let a = c.args in
     record {
       answer = sym (rows-refused a.n a.used a.rows.now a.names.now (length a.out.now) _
-          (sym checked.check-rows.ensures ∙ ap verdict_of told.checked.given.1));
+          (sym c.check_rows-checked.ensures ∙ ap verdict_of c.in-Refused.is));
       output = refl;
     }
 
-pub write-table-spec : {M : Type 1} → statement M
-write-table-spec =
+pub write_table_spec : {M : Type 1} → statement M
+write_table_spec =
     tie.close
     (tie.spec
     (λ c κs. search rules)

@@ -1,5 +1,6 @@
 -- A call that writes the record and the second of three slices of words.
-use Rattle.walks.specs.Tools.{refl, [], ◌∷◌, Ura, Name, Fn, named, erased, mut, imm, w64, place, seq, call, cond, skip, return, flft, toks, ‵, raw, ◌⊛◌, ◌$◌, ◌∵◌, !, qed, move, fjoin, look, init, stop, hop, fld, from, addr, of_opd, and_then, no_more, returns, enter, alloc1, alloc0, params1, pass1, pass0, free0, agg, whole, sub, look_in, Is, u64, shr_slice_Lawful, mut_slice_Lawful, plain, owned, row, Clauses, called, landed, copied, field-of, sets, freed, chosen, loads, stores-if, apart-alone, given-back-alone, Lendable, Enumerated, TurnedEnum, enum_turn, enum_turn_laws, variants, function, lent_struct, struct, words, pointer, flag, whole_of, reads_struct, takes_address, makes_slice, takes_field, stores_field, mut_struct, own_struct, mut_slice, shr_slice, behind_first, Passing, lent, callee, held, sent, Walks, Passes, passes, ends}
+use Rattle.std.specs.Prelude.{refl, [], ◌∷◌}
+use Rattle.walks.specs.Tools.{Ura, Callee, Fn, named, erased, mut, imm, w64, place, seq, call, cond, skip, return, flft, toks, ‵, raw, ◌⊛◌, ◌$◌, ◌∵◌, !, qed, move, fjoin, look, init, stop, hop, fld, from, addr, of_opd, and_then, no_more, returns, enter, alloc1, alloc0, params1, pass1, pass0, free0, agg, whole, sub, look_in, Is, u64, shr_slice_Lawful, mut_slice_Lawful, plain, owned, row, Clauses, called, landed, copied, field-of, sets, freed, chosen, loads, stores-if, apart-alone, given-back-alone, Lendable, Enumerated, TurnedEnum, enum_turn, enum_turn_laws, variants, function, lent_struct, struct, words, pointer, flag, whole_of, reads_struct, takes_address, makes_slice, takes_field, stores_field, mut_struct, own_struct, mut_slice, shr_slice, behind_first, Passing, lent, callee, held, sent, Walks, Passes, passes, ends}
 use denote.Struct.Laws as LL
 use denote.Enum.Declared as ED
 use denote.Enum.Laws as EL
@@ -18,7 +19,7 @@ module _ (T : Lendable) (N : Enumerated) (S : TurnedEnum N T) where
   }
 
   -- the code, with the name of the one that it calls
-  abbrev pub accepting : Name → Fn
+  abbrev pub accepting : Callee → Fn
   accepting n = function 4 4 (variants N.type ∷ lent_struct 0 mut T.type ∷ words (named 1) imm ∷ words (named 2) mut ∷ words (named 3) imm ∷ struct T.type ∷ struct (enum_turn S) ∷ pointer ∷ words erased mut ∷ flag ∷ [])
       (seq (reads_struct 5 1 T.type)
       (seq (takes_address 7 3)
@@ -29,11 +30,9 @@ module _ (T : Lendable) (N : Enumerated) (S : TurnedEnum N T) where
       (seq (takes_field 0 6 0) return)))))))
 
   module _ {M : Type 1} {𝓤 : Ura M} (𝓛 : Logic 𝓤) (c : Clauses 𝓤 (lent passing)) (k : Clauses 𝓤 (callee passing)) where
-    open 𝓛 use {A}
-
     walk : Walks passing 𝓛 c k accepting
     walk κs qs a g g' n C Λ fm known free enough are =
-        qed 𝓛 ((‵ (flft κs.0 qs.0) ⊛ raw (toks 𝓤 A 3 κs.1 qs.1)) ∷ ‵ (held passing κs a) ∷ []) ∵
+        qed 𝓛 ((‵ (flft κs.0 qs.0) ⊛ raw (toks 𝓛 3 κs.1 qs.1)) ∷ ‵ (held passing κs a) ∷ []) ∵
         apart-alone ! (row T.type) a.0 $
         -- [the record's obs, borrow, token; what the words own; their tokens]
         enter ! C Λ (accepting n) _ _ $

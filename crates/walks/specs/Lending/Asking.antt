@@ -1,5 +1,6 @@
 -- A call that only reads: the record and three slices of words are lent to be read, with two words.
-use Rattle.walks.specs.Tools.{refl, [], ◌∷◌, Ura, Name, Fn, named, imm, w64, place, seq, call, return, flft, toks, ‵, raw, ◌⊛◌, ◌$◌, ◌∵◌, !, qed, move, drop, fjoin, look, init, stop, from, and_then, no_more, land, returns, enter, alloc1, alloc0, params1, pass1, pass0, free0, Is, shows, u64, uint_Lawful, shr_slice_Lawful, plain, owned, peeks, row, Clauses, called, copied, freed, reads, apart-shared-alone, given-back-shared-alone, Lendable, Enumerated, variants, function, lent_struct, struct, words, word, whole_of, reads_struct, shr_struct, own_struct, shr_slice, number, behind_first, Passing, lent, callee, held, sent, Walks, Passes, passes, ends}
+use Rattle.std.specs.Prelude.{refl, [], ◌∷◌}
+use Rattle.walks.specs.Tools.{Ura, Callee, Fn, named, imm, w64, place, seq, call, return, flft, toks, ‵, raw, ◌⊛◌, ◌$◌, ◌∵◌, !, qed, move, drop, fjoin, look, init, stop, from, and_then, no_more, land, returns, enter, alloc1, alloc0, params1, pass1, pass0, free0, Is, shows, u64, uint_Lawful, shr_slice_Lawful, plain, owned, peeks, row, Clauses, called, copied, freed, reads, apart-shared-alone, given-back-shared-alone, Lendable, Enumerated, variants, function, lent_struct, struct, words, word, whole_of, reads_struct, shr_struct, own_struct, shr_slice, number, behind_first, Passing, lent, callee, held, sent, Walks, Passes, passes, ends}
 use denote.Struct.Laws as LL
 use denote.Enum.Declared as ED
 use denote.Enum.Laws as EL
@@ -18,17 +19,15 @@ module _ (T : Lendable) (N : Enumerated) where
   }
 
   -- the code, with the name of the one that it calls
-  abbrev pub asking : Name → Fn
+  abbrev pub asking : Callee → Fn
   asking n = function 4 6 (variants N.type ∷ lent_struct 0 imm T.type ∷ words (named 1) imm ∷ words (named 2) imm ∷ words (named 3) imm ∷ word ∷ word ∷ struct T.type ∷ [])
       (seq (reads_struct 7 1 T.type)
       (seq (call n (whole_of 7 ∷ whole_of 2 ∷ whole_of 3 ∷ whole_of 4 ∷ whole_of 5 ∷ whole_of 6 ∷ []) (place 0 [])) return))
 
   module _ {M : Type 1} {𝓤 : Ura M} (𝓛 : Logic 𝓤) (c : Clauses 𝓤 (lent passing)) (k : Clauses 𝓤 (callee passing)) where
-    open 𝓛 use {A}
-
     walk : Walks passing 𝓛 c k asking
     walk κs qs a g g' n C Λ fm known free enough are =
-        qed 𝓛 ((‵ (flft κs.0 qs.0) ⊛ raw (toks 𝓤 A 3 κs.1 qs.1)) ∷ ‵ (held passing κs a) ∷ []) ∵
+        qed 𝓛 ((‵ (flft κs.0 qs.0) ⊛ raw (toks 𝓛 3 κs.1 qs.1)) ∷ ‵ (held passing κs a) ∷ []) ∵
         apart-shared-alone ! (row T.type) a.0 $
         -- [the record's borrow, token; what the words own; their tokens]
         enter ! C Λ (asking n) _ _ $

@@ -1,5 +1,6 @@
 -- A call that writes the first of three slices of words, with three words; the record is lent to be written and stays.
-use Rattle.walks.specs.Tools.{refl, [], ◌∷◌, Ura, Name, Fn, named, erased, mut, imm, w64, place, seq, call, return, flft, toks, ‵, raw, ◌⊛◌, ◌$◌, ◌∵◌, !, qed, move, drop, fjoin, look, init, stop, hop, fld, from, addr, and_then, no_more, land, returns, enter, alloc1, alloc0, params1, pass1, pass0, free0, agg, whole, sub, look_in, Is, shows, u64, uint_Lawful, shr_slice_Lawful, mut_slice_Lawful, plain, owned, peeks, row, Clauses, called, copied, field-of, sets, freed, loads, apart-alone, given-back-alone, Lendable, Enumerated, variants, function, lent_struct, struct, words, word, pointer, whole_of, reads_struct, takes_address, makes_slice, mut_struct, own_struct, mut_slice, shr_slice, number, behind_first, Passing, lent, callee, held, sent, Walks, Passes, passes, ends}
+use Rattle.std.specs.Prelude.{refl, [], ◌∷◌}
+use Rattle.walks.specs.Tools.{Ura, Callee, Fn, named, erased, mut, imm, w64, place, seq, call, return, flft, toks, ‵, raw, ◌⊛◌, ◌$◌, ◌∵◌, !, qed, move, drop, fjoin, look, init, stop, hop, fld, from, addr, and_then, no_more, land, returns, enter, alloc1, alloc0, params1, pass1, pass0, free0, agg, whole, sub, look_in, Is, shows, u64, uint_Lawful, shr_slice_Lawful, mut_slice_Lawful, plain, owned, peeks, row, Clauses, called, copied, field-of, sets, freed, loads, apart-alone, given-back-alone, Lendable, Enumerated, variants, function, lent_struct, struct, words, word, pointer, whole_of, reads_struct, takes_address, makes_slice, mut_struct, own_struct, mut_slice, shr_slice, number, behind_first, Passing, lent, callee, held, sent, Walks, Passes, passes, ends}
 use denote.Struct.Laws as LL
 use denote.Enum.Declared as ED
 use denote.Enum.Laws as EL
@@ -18,7 +19,7 @@ module _ (T : Lendable) (N : Enumerated) where
   }
 
   -- the code, with the name of the one that it calls
-  abbrev pub filling : Name → Fn
+  abbrev pub filling : Callee → Fn
   filling n = function 4 7 (variants N.type ∷ lent_struct 0 mut T.type ∷ words (named 1) mut ∷ words (named 2) imm ∷ words (named 3) imm ∷ word ∷ word ∷ word ∷ struct T.type ∷ pointer ∷ words erased mut ∷ [])
       (seq (reads_struct 8 1 T.type)
       (seq (takes_address 9 2)
@@ -26,11 +27,9 @@ module _ (T : Lendable) (N : Enumerated) where
       (seq (call n (whole_of 8 ∷ whole_of 10 ∷ whole_of 3 ∷ whole_of 4 ∷ whole_of 5 ∷ whole_of 6 ∷ whole_of 7 ∷ []) (place 0 [])) return))))
 
   module _ {M : Type 1} {𝓤 : Ura M} (𝓛 : Logic 𝓤) (c : Clauses 𝓤 (lent passing)) (k : Clauses 𝓤 (callee passing)) where
-    open 𝓛 use {A}
-
     walk : Walks passing 𝓛 c k filling
     walk κs qs a g g' n C Λ fm known free enough are =
-        qed 𝓛 ((‵ (flft κs.0 qs.0) ⊛ raw (toks 𝓤 A 3 κs.1 qs.1)) ∷ ‵ (held passing κs a) ∷ []) ∵
+        qed 𝓛 ((‵ (flft κs.0 qs.0) ⊛ raw (toks 𝓛 3 κs.1 qs.1)) ∷ ‵ (held passing κs a) ∷ []) ∵
         apart-alone ! (row T.type) a.0 $
         -- [the record's obs, borrow, token; what the words own; their tokens]
         enter ! C Λ (filling n) _ _ $
