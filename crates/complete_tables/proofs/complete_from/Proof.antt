@@ -5,7 +5,6 @@ use native.Mathlib.Omega.{arith}
 use native.Mathlib.Nat.{sub-zero}
 use lib.ListN.{take, drop, replicate}
 use borrow.Author.Rules.{rules}
-use borrow.Author.Tests.{not-true, not-false}
 use Rattle.table_lines.specs.Lines.{bytes_at}
 use Rattle.table_bytes.specs.Bytes.{is_known}
 use Rattle.line_bytes.specs.Everywhere.{everywhere}

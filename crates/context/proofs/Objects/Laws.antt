@@ -1,6 +1,6 @@
 -- What an object has and lacks, and what the tests of an object say of members. An object refutes an implication just if it has the
 -- premise and lacks some attribute of the conclusion. All else reads `has`, `lacks`, `refutes` and `refutes_written` through these laws.
-use Rattle.std.specs.Prelude.{◌≡◌, refl, Bool, true, false, List, ◌++◌, ℕ, ◌/◌, ◌^◌, ◌≤◌, ◌<◌, min, length}
+use Rattle.std.specs.Prelude.{◌≡◌, refl, Bool, true, false, List, ◌++◌, ℕ, ◌/◌, ◌^◌, ◌≤◌, ◌<◌, length}
 use Rattle.std.proofs.Common.{sym, ap, ◌∙◌, true≢false, arith, ne_eqb}
 use Rattle.std.proofs.lemmas.Bool.{false≢true}
 use Rattle.std.specs.Int.Bits.{bit_and, bit_or}

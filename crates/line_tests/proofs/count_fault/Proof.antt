@@ -2,7 +2,7 @@
 use mathlib.Core.Path.{◌≡◌, sym, ◌∙◌}
 use mathlib.Core.Bool.{true}
 use borrow.Author.Rules.{rules}
-use borrow.Author.Tests.{not-true, not-false, le-leb, lt-leb}
+use borrow.Author.Tests.{le-leb, lt-leb}
 use Rattle.table_counts.specs.Counts.{is_count}
 use Rattle.line_tests.specs.Tests.{count_fault}
 use Rattle.line_tests.proofs.count_fault.Statement.{statement}

@@ -6,7 +6,6 @@ use lib.ListN.{length}
 use Rattle.text.proofs.Page.Laws.{text-end}
 use Rattle.nearly_always.specs.Nearly.{InRange}
 use borrow.Author.Rules.{rules}
-use borrow.Author.Tests.{not-true, not-false}
 use Rattle.nearly_lines.proofs.put_lines.Statement.{statement}
 use Rattle.nearly_lines.proofs.put_lines.Tie as tie
 

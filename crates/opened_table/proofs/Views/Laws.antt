@@ -2,7 +2,7 @@
 -- the last are there and its marks are read as the file's. The view of a file that is refused has no names (`refused-objects`,
 -- `refused-attributes`).
 use Rattle.std.specs.Prelude.{◌≡◌, Bool, true, false, ◌&&◌, List, ℕ, ltb}
-use Rattle.std.proofs.Common.{sym, ap, ◌∙◌, arith, le-ltb}
+use Rattle.std.proofs.Common.{ap, ◌∙◌, arith, le-ltb}
 use Rattle.std.proofs.Math.Bool.{and-false}
 use Rattle.std.specs.Borrow.{Bor}
 use Rattle.session.specs.declared.Refusal.{Refusal}

@@ -2,7 +2,6 @@
 use mathlib.Core.Path.{refl, sym, ◌∙◌}
 use mathlib.Core.Bool.{true≢false}
 use borrow.Author.Rules.{rules}
-use borrow.Author.Tests.{not-true, not-false}
 use Rattle.row_counts.proofs.nearly_always.Statement.{statement}
 use Rattle.row_counts.proofs.nearly_always.Tie as tie
 

@@ -8,7 +8,7 @@ use Rattle.machine.specs.Machine.{opening}
 use Rattle.table_layout.specs.declared.Opened.{Opened}
 use Rattle.table_layout.specs.declared.Opened.TheVariants.{Found, Refused}
 use Rattle.table_lines.specs.Pieces.{lines_of}
-use Rattle.table_layout.specs.Layout.{most_bytes, opened_of}
+use Rattle.table_layout.specs.Layout.{most_bytes}
 use Rattle.complete_tables.specs.Complete.{opened_complete}
 use Rattle.transcript.specs.Output.{interviewed, written, output_with}
 use Rattle.same_lines.specs.Files.{SameAnswer}

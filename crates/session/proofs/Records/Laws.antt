@@ -1,5 +1,5 @@
 -- Records that are the same number for number are equal (`same-equal`).
-use Rattle.std.specs.Prelude.{◌≡◌, refl, Bool, true, false, ◌&&◌, eqb}
+use Rattle.std.specs.Prelude.{◌≡◌, refl, Bool, true, false, ◌&&◌}
 use Rattle.std.proofs.Common.{sym, true≢false, eqb-true}
 use Rattle.session.specs.declared.Session.{Session}
 use Rattle.session.specs.Records.{same_session}

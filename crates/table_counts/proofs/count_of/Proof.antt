@@ -2,7 +2,6 @@
 use mathlib.Core.Path.{◌≡◌, sym, ◌∙◌}
 use mathlib.Core.Bool.{true}
 use borrow.Author.Rules.{rules}
-use borrow.Author.Tests.{not-true, not-false}
 use Rattle.table_counts.specs.Counts.{is_count, count_of}
 use Rattle.table_counts.proofs.Counts.Laws.{count-digits}
 use Rattle.table_counts.proofs.count_of.Statement.{statement}
