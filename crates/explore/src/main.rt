@@ -1,51 +1,51 @@
 // The interview of the complete table on standard input (01: the program). Beside it, on standard error: why a file is refused.
 #![tactic(auto)]
 
-use libc::{STDERR_FILENO, STDIN_FILENO};
 use standard_streams::REPORT_BYTES;
+use std::io::{IsTerminal, Write};
 use table_interview::OUTPUT_BYTES;
 use table_layout::FILE_BYTES;
 
-// The sentence of a refusal number, on standard error.
-fn say_sentence(number: u64) {
+// The sentence of a refusal number.
+fn say_sentence<W: Write>(writer: &mut W, number: u64) {
     let mut report = [0u8; REPORT_BYTES];
     let size = refusal_reports::put_sentence_line(&mut report, 0, number);
-    standard_streams::say(&report, size);
+    standard_streams::say(writer, &report, size);
 }
 
 // How the program is used, where a person calls it with no file.
-fn say_usage() {
-    io::write_all(
-        STDERR_FILENO,
+fn say_usage<W: Write>(writer: &mut W) {
+    let _ = writer.write_all(
         b"usage: explore < TABLE
 Interviews a complete table in Burmeister's layout, in place of an expert.
 ",
     );
 }
 
-fn main() {
-    if libc::isatty(STDIN_FILENO) == 1 {
-        say_usage();
+fn main(rt: HostRuntime) {
+    let (mut stdin, mut stdout, mut stderr) = (rt.stdin(), rt.stdout(), rt.stderr());
+    if stdin.is_terminal() {
+        say_usage(&mut stderr);
         return;
     }
     let mut file = [0u8; FILE_BYTES];
-    let input = standard_streams::read_input(STDIN_FILENO, &mut file);
+    let input = standard_streams::read_input(&mut stdin, &mut file);
     if input.failed {
-        io::write_all(STDERR_FILENO, b"standard input cannot be read\n");
+        let _ = stderr.write_all(b"standard input cannot be read\n");
         return;
     }
     let mut out = [0u8; OUTPUT_BYTES];
-    let told = explore_answers::answer(&file, input.size, &mut out);
+    let told = explore_answers::answer(&file, input.size, &mut out, &mut stdout);
     if !told.handed.whole {
-        io::write_all(STDERR_FILENO, b"standard output cannot be written\n");
+        let _ = stderr.write_all(b"standard output cannot be written\n");
     }
     let mut report = [0u8; REPORT_BYTES];
     let explained = explore_answers::explain(&file, input.size, &mut report);
-    standard_streams::say(&report, explained);
+    standard_streams::say(&mut stderr, &report, explained);
     if explained != 0 {
         return;
     }
     if explore_answers::ran_out(&out, told.end) {
-        say_sentence(12);
+        say_sentence(&mut stderr, 12);
     }
 }

@@ -7,26 +7,25 @@ ghost use Rattle.refusal_reports.specs.Reports.{explanation};
 ghost use Rattle.explore_answers.specs.Answers.{Answers};
 
 use handed_output::Told;
-use libc::STDOUT_FILENO;
 use session::Session;
 use standard_streams::REPORT_BYTES;
+use std::io::Write;
 use table_interview::OUTPUT_BYTES;
 use table_layout::FILE_BYTES;
 
 // The output for the first so many bytes of the buffer, with all places of a session lent. What is handed over to be written, line by
 // line, is what the buffer holds in the end.
-pub fn answer(file: &[u8; FILE_BYTES], size: usize, out: &mut [u8; OUTPUT_BYTES]) -> Told
+pub fn answer<W: Write>(
+    file: &[u8; FILE_BYTES],
+    size: usize,
+    out: &mut [u8; OUTPUT_BYTES],
+    writer: &mut W,
+) -> Told
     ensures { Answers file size out result }
 {
     let bytes: &[u8] = file;
     let end = closures::smaller(size, bytes.len());
-    table_interview::hold(
-        &bytes[..end],
-        Session::ROWS,
-        Session::RULES,
-        out,
-        STDOUT_FILENO,
-    )
+    table_interview::hold(&bytes[..end], Session::ROWS, Session::RULES, out, writer)
 }
 
 // Why the file in the first so many bytes of the buffer is refused; nothing where it is a complete table.

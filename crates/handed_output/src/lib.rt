@@ -6,6 +6,8 @@ ghost use Rattle.std.specs.Prelude.{length};
 ghost use Rattle.closing_lines.specs.Closing.{refusal_line};
 ghost use Rattle.handed_output.specs.Handing.{HandsOver, Tells};
 
+use std::io::Write;
+
 // The most bytes that can be counted.
 const MOST: usize = 18446744073709551615;
 
@@ -24,7 +26,13 @@ pub struct Told {
 }
 
 // Hands over what stands in the buffer between two offsets. A write that failed is the last.
-pub fn hand_over(fd: i32, out: &[u8], from: usize, to: usize, before: Handed) -> Handed
+pub fn hand_over<W: Write>(
+    writer: &mut W,
+    out: &[u8],
+    from: usize,
+    to: usize,
+    before: Handed,
+) -> Handed
     ensures { HandsOver (length out.now) from to before result }
 {
     let counted = before.bytes;
@@ -42,7 +50,7 @@ pub fn hand_over(fd: i32, out: &[u8], from: usize, to: usize, before: Handed) ->
         return before;
     }
     let part = &out[from..to];
-    let whole = io::write_all(fd, part);
+    let whole = writer.write_all(part).is_ok();
     Handed {
         bytes: counted + part.len(),
         whole,
@@ -50,10 +58,15 @@ pub fn hand_over(fd: i32, out: &[u8], from: usize, to: usize, before: Handed) ->
 }
 
 // The refusal line, handed over.
-pub fn write_refusal(refusal: session::Refusal, out: &mut [u8], fd: i32, before: Handed) -> Told
+pub fn write_refusal<W: Write>(
+    refusal: session::Refusal,
+    out: &mut [u8],
+    writer: &mut W,
+    before: Handed,
+) -> Told
     ensures { Tells out before result (refusal_line refusal) }
 {
     let end = closing_lines::put_refusal(out, 0, refusal.number, refusal.place as u64);
-    let handed = hand_over(fd, out, 0, end, before);
+    let handed = hand_over(writer, out, 0, end, before);
     Told { end, handed }
 }

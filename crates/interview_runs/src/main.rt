@@ -2,47 +2,46 @@
 // places, all of a session, and once with 2 for rows and 1 for rules.
 #![tactic(auto)]
 
-use libc::STDOUT_FILENO;
+use named_files::PATH_BYTES;
 use session::Session;
+use std::io::Write;
 use table_interview::OUTPUT_BYTES;
 use table_layout::FILE_BYTES;
 
-fn hold(file: &[u8]) {
+fn hold<W: Write>(writer: &mut W, file: &[u8]) {
     let mut out = [0u8; OUTPUT_BYTES];
-    table_interview::hold(file, Session::ROWS, Session::RULES, &mut out, STDOUT_FILENO);
+    table_interview::hold(file, Session::ROWS, Session::RULES, &mut out, writer);
 }
 
-fn hold_few(file: &[u8]) {
+fn hold_few<W: Write>(writer: &mut W, file: &[u8]) {
     let mut out = [0u8; OUTPUT_BYTES];
-    table_interview::hold(file, 2, 1, &mut out, STDOUT_FILENO);
+    table_interview::hold(file, 2, 1, &mut out, writer);
 }
 
-fn hold_path(path: &[u8]) {
+fn hold_path(rt: &HostRuntime, path: &[u8]) {
     let mut file = [0u8; FILE_BYTES];
-    let named = named_files::read_path(path, &mut file);
+    let mut stdout = rt.stdout();
+    let named = named_files::read_path(rt, path, &mut file, &mut rt.stderr());
     let size = named.size;
     if !named.opened {
         return;
     }
-    io::write_all(STDOUT_FILENO, path);
-    io::write_all(STDOUT_FILENO, b"\n");
-    hold(&file[..size]);
-    io::write_all(STDOUT_FILENO, path);
-    io::write_all(STDOUT_FILENO, b", 2 places for rows and 1 for rules\n");
-    hold_few(&file[..size]);
+    let _ = stdout.write_all(path);
+    let _ = stdout.write_all(b"\n");
+    hold(&mut stdout, &file[..size]);
+    let _ = stdout.write_all(path);
+    let _ = stdout.write_all(b", 2 places for rows and 1 for rules\n");
+    hold_few(&mut stdout, &file[..size]);
 }
 
-fn hold_arg(number: usize) {
-    let mut path = io::buffer();
-    let length = os::arg(number, &mut path);
-    hold_path(&path[..length]);
+fn hold_argument(rt: &HostRuntime, number: usize) {
+    let mut path = [0u8; PATH_BYTES];
+    let length = named_files::put_argument(rt, number, &mut path);
+    hold_path(rt, &path[..length]);
 }
 
-fn main() {
-    let count = os::arg_count();
-    let mut i = 1;
-    while i < count {
-        hold_arg(i);
-        i += 1;
+fn main(rt: HostRuntime) {
+    for i in 1..named_files::count_arguments(&rt) {
+        hold_argument(&rt, i);
     }
 }

@@ -1,10 +1,16 @@
 // Files that the arguments of a program name, each read to a buffer.
 #![tactic(auto)]
 
-ghost use Rattle.std.specs.Prelude.{◌≡◌, false};
-ghost use Rattle.io.specs.Counts.{IsPrefixLen};
+ghost use Rattle.std.specs.Prelude.{◌≡◌, ◌≤◌, false, length};
+ghost use Rattle.named_files.specs.Counts.{Counts};
 
-use libc::STDOUT_FILENO;
+use std::env::{Env, FillError};
+use std::fs::File;
+use std::io::{Error, ErrorKind, Read, Write};
+use std::rt::Files;
+
+// The bytes of a buffer that holds every path.
+pub const PATH_BYTES: usize = 4096;
 
 // So many bytes of a file stand at the start of the buffer; none where it could not be opened.
 #[derive(Clone, Copy)]
@@ -13,35 +19,119 @@ pub struct NamedFile {
     pub opened: bool,
 }
 
-// Reads the file of this path until it ends or the buffer is full. Where it cannot be opened, standard error says why.
-pub fn read_path(path: &[u8], file: &mut [u8]) -> NamedFile
-    ensures read { IsPrefixLen result.size file.new }
-    ensures unopened { result.opened ≡ false → result.size ≡ 0 }
-{
-    let fd = os::open_read(path);
-    if fd < 0 {
-        os::fail(path);
-        return NamedFile {
-            size: 0,
-            opened: false,
-        };
+// How many arguments the program was started with, its own name among them.
+pub fn count_arguments<R: Env>(rt: &R) -> usize {
+    let mut byte = [0u8];
+    for i in 0..usize::MAX {
+        if let Err(FillError::NotPresent) = rt.arg(i, &mut byte) {
+            return i;
+        }
     }
-    let size = io::read_full(fd, file);
-    libc::close(fd);
-    NamedFile { size, opened: true }
+    usize::MAX
 }
 
-// Reads the file that the argument of this number names, and writes its name to standard output.
-pub fn read_argument(number: usize, file: &mut [u8]) -> NamedFile
-    ensures read { IsPrefixLen result.size file.new }
+// The argument of this number, at the start of the buffer: its length, and 0 where it is missing or longer than the buffer.
+pub fn put_argument<R: Env>(rt: &R, number: usize, path: &mut [u8]) -> usize
+    ensures { Counts result path.new }
+{
+    match rt.arg(number, path) {
+        Ok(length) => length,
+        Err(_) => 0,
+    }
+}
+
+// Reads until the buffer is full, the file ends or a read fails.
+fn read_full<R: Read>(reader: &mut R, file: &mut [u8]) -> usize
+    ensures { Counts result file.new }
+{
+    let mut size = 0;
+    while size < file.len() {
+        match reader.read(&mut file[size..]) {
+            Ok(0) => return size,
+            Ok(more) => size += more,
+            Err(_) => return size,
+        }
+    }
+    size
+}
+
+// Opens the file of this path for reading. A path that is no text names no file.
+fn open<R: Files>(rt: &R, path: &[u8]) -> std::io::Result<R::File> {
+    match str::from_utf8(path) {
+        Ok(text) => File::open(rt, text),
+        Err(_) => Err(Error::from(ErrorKind::InvalidFilename)),
+    }
+}
+
+// So many bytes of a system's error are its words; its number stands behind them in brackets.
+fn size_of_words(error: &[u8]) -> usize
+    ensures { result ≤ length error.now }
+{
+    let mut size = error.len();
+    for i in 1..error.len() {
+        if error[i] == b'(' {
+            size = i - 1;
+        }
+    }
+    size
+}
+
+// Writes why a path is not opened, in a line: the path, and the words of the error.
+fn write_why<W: Write>(writer: &mut W, path: &[u8], error: Error) {
+    let mut shown = [0u8; 512];
+    let mut rest: &mut [u8] = &mut shown;
+    let _ = write!(rest, "{error}");
+    let left = rest.len();
+    let end = shown.len().saturating_sub(left);
+    let size = size_of_words(&shown[..end]);
+    let _ = writer.write_all(path);
+    let _ = writer.write_all(b": ");
+    let _ = writer.write_all(&shown[..size]);
+    let _ = writer.write_all(b"\n");
+}
+
+// Reads the file of this path until it ends or the buffer is full. Where it cannot be opened, the writer is told why.
+pub fn read_path<R: Files, W: Write>(
+    rt: &R,
+    path: &[u8],
+    file: &mut [u8],
+    writer: &mut W,
+) -> NamedFile
+    ensures read { Counts result.size file.new }
     ensures unopened { result.opened ≡ false → result.size ≡ 0 }
 {
-    let mut path = io::buffer();
-    let length = os::arg(number, &mut path);
-    let named = read_path(&path[..length], file);
+    match open(rt, path) {
+        Ok(mut opened) => {
+            let size = read_full(&mut opened, file);
+            NamedFile { size, opened: true }
+        }
+        Err(error) => {
+            write_why(writer, path, error);
+            NamedFile {
+                size: 0,
+                opened: false,
+            }
+        }
+    }
+}
+
+// Reads the file that the argument of this number names, and writes its name.
+pub fn read_argument<R: Env + Files, W: Write, E: Write>(
+    rt: &R,
+    number: usize,
+    file: &mut [u8],
+    writer: &mut W,
+    errors: &mut E,
+) -> NamedFile
+    ensures read { Counts result.size file.new }
+    ensures unopened { result.opened ≡ false → result.size ≡ 0 }
+{
+    let mut path = [0u8; PATH_BYTES];
+    let length = put_argument(rt, number, &mut path);
+    let named = read_path(rt, &path[..length], file, errors);
     let opened = named.opened;
     if opened {
-        io::write_all(STDOUT_FILENO, &path[..length]);
+        let _ = writer.write_all(&path[..length]);
     }
     named
 }

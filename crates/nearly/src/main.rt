@@ -2,38 +2,38 @@
 // error: why a file is refused.
 #![tactic(auto)]
 
-use libc::{STDERR_FILENO, STDIN_FILENO};
 use nearly_output::OUTPUT_BYTES;
 use standard_streams::REPORT_BYTES;
+use std::io::{IsTerminal, Write};
 use table_layout::FILE_BYTES;
 
 // How the program is used, where a person calls it with no file.
-fn say_usage() {
-    io::write_all(
-        STDERR_FILENO,
+fn say_usage<W: Write>(writer: &mut W) {
+    let _ = writer.write_all(
         b"usage: nearly < TABLE
 Lists what more than 80 per cent of the rows with one or two properties have, of a table in Burmeister's layout.
 ",
     );
 }
 
-fn main() {
-    if libc::isatty(STDIN_FILENO) == 1 {
-        say_usage();
+fn main(rt: HostRuntime) {
+    let (mut stdin, mut stdout, mut stderr) = (rt.stdin(), rt.stdout(), rt.stderr());
+    if stdin.is_terminal() {
+        say_usage(&mut stderr);
         return;
     }
     let mut file = [0u8; FILE_BYTES];
-    let input = standard_streams::read_input(STDIN_FILENO, &mut file);
+    let input = standard_streams::read_input(&mut stdin, &mut file);
     if input.failed {
-        io::write_all(STDERR_FILENO, b"standard input cannot be read\n");
+        let _ = stderr.write_all(b"standard input cannot be read\n");
         return;
     }
     let mut out = [0u8; OUTPUT_BYTES];
-    let told = nearly_answers::answer(&file, input.size, &mut out);
+    let told = nearly_answers::answer(&file, input.size, &mut out, &mut stdout);
     if !told.handed.whole {
-        io::write_all(STDERR_FILENO, b"standard output cannot be written\n");
+        let _ = stderr.write_all(b"standard output cannot be written\n");
     }
     let mut report = [0u8; REPORT_BYTES];
     let explained = nearly_answers::explain(&file, input.size, &mut report);
-    standard_streams::say(&report, explained);
+    standard_streams::say(&mut stderr, &report, explained);
 }

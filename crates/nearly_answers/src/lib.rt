@@ -10,15 +10,21 @@ ghost use Rattle.nearly_output.specs.Output.{Answers};
 use handed_output::Told;
 use nearly_output::OUTPUT_BYTES;
 use standard_streams::REPORT_BYTES;
+use std::io::Write;
 use table_layout::FILE_BYTES;
 
 // The output for the first so many bytes of the buffer.
-pub fn answer(file: &[u8; FILE_BYTES], size: usize, out: &mut [u8; OUTPUT_BYTES]) -> Told
+pub fn answer<W: Write>(
+    file: &[u8; FILE_BYTES],
+    size: usize,
+    out: &mut [u8; OUTPUT_BYTES],
+    writer: &mut W,
+) -> Told
     ensures { Answers file size out result }
 {
     let bytes: &[u8] = file;
     let end = closures::smaller(size, bytes.len());
-    nearly_output::list_file(&bytes[..end], out, libc::STDOUT_FILENO)
+    nearly_output::list_file(&bytes[..end], out, writer)
 }
 
 // Why the file in the first so many bytes of the buffer is refused; nothing where it is a table.

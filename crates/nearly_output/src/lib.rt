@@ -11,6 +11,7 @@ ghost use Rattle.nearly_output.specs.Output.{percentage, nearly_output};
 
 use handed_output::{Handed, Told};
 use session::Session;
+use std::io::Write;
 use table_layout::Opened;
 
 // The bytes of a buffer that holds every output whole.
@@ -20,17 +21,24 @@ pub const OUTPUT_BYTES: usize = 274560;
 const PERCENTAGE: u64 = 80;
 
 // The lines of a table whose rows are in words, handed over.
-fn write_lines(rows: &[u64], used: usize, n: usize, out: &mut [u8], fd: i32, before: Handed) -> Told
+fn write_lines<W: Write>(
+    rows: &[u64],
+    used: usize,
+    n: usize,
+    out: &mut [u8],
+    writer: &mut W,
+    before: Handed,
+) -> Told
     requires { InRange n used (length rows.now) percentage }
     ensures { Tells out before result (nearly_lines n percentage (objects_of used rows.now) (premises n)) }
 {
     let end = nearly_lines::put_lines(out, 0, n, used, rows, PERCENTAGE);
-    let handed = handed_output::hand_over(fd, out, 0, end, before);
+    let handed = handed_output::hand_over(writer, out, 0, end, before);
     Told { end, handed }
 }
 
-// The program's whole output for a table file, in a lent buffer and on the descriptor fd.
-pub fn list_file(file: &[u8], out: &mut [u8; OUTPUT_BYTES], fd: i32) -> Told
+// The program's whole output for a table file, in a lent buffer and to the writer.
+pub fn list_file<W: Write>(file: &[u8], out: &mut [u8; OUTPUT_BYTES], writer: &mut W) -> Told
     ensures { Writes out result (nearly_output file.now) }
 {
     let mut rows = [0u64; Session::ROWS * 2];
@@ -40,13 +48,13 @@ pub fn list_file(file: &[u8], out: &mut [u8; OUTPUT_BYTES], fd: i32) -> Told
     };
     let opened = table_marks::read_marks(file, &mut rows);
     match opened {
-        Opened::Refused(refusal) => handed_output::write_refusal(refusal, out, fd, before),
+        Opened::Refused(refusal) => handed_output::write_refusal(refusal, out, writer, before),
         Opened::Found(layout) => write_lines(
             &rows,
             layout.objects,
             layout.attributes,
             out,
-            fd,
+            writer,
             before,
         ),
     }

@@ -1,9 +1,9 @@
 // What the programs have in common: standard input read to a buffer, and words for a person on standard error.
 #![tactic(auto)]
 
-ghost use Rattle.io.specs.Counts.{IsPrefixLen};
+ghost use Rattle.named_files.specs.Counts.{Counts};
 
-use libc::STDERR_FILENO;
+use std::io::{Read, Write};
 
 // The bytes of a buffer with room for every explanation of a refused file; the longest has fewer than 260.
 pub const REPORT_BYTES: usize = 512;
@@ -16,20 +16,21 @@ pub struct Input {
 }
 
 // Reads until the buffer is full, the input ends or a read fails.
-pub fn read_input(fd: i32, file: &mut [u8]) -> Input
-    ensures { IsPrefixLen result.size file.new }
+pub fn read_input<R: Read>(reader: &mut R, file: &mut [u8]) -> Input
+    ensures { Counts result.size file.new }
 {
     let mut size = 0;
     while size < file.len() {
-        let got = libc::read(fd, &mut file[size..]);
-        let more = io::count(got, &file[size..]);
-        if more == 0 {
-            return Input {
-                size,
-                failed: got < 0,
-            };
+        match reader.read(&mut file[size..]) {
+            Ok(0) => {
+                return Input {
+                    size,
+                    failed: false,
+                };
+            }
+            Ok(more) => size += more,
+            Err(_) => return Input { size, failed: true },
         }
-        size += more;
     }
     Input {
         size,
@@ -37,10 +38,10 @@ pub fn read_input(fd: i32, file: &mut [u8]) -> Input
     }
 }
 
-// Writes what stands at the start of a report to standard error.
-pub fn say(report: &[u8; REPORT_BYTES], size: usize) {
+// Writes what stands at the start of a report.
+pub fn say<W: Write>(writer: &mut W, report: &[u8; REPORT_BYTES], size: usize) {
     let bytes: &[u8] = report;
     if size <= bytes.len() {
-        io::write_all(STDERR_FILENO, &bytes[..size]);
+        let _ = writer.write_all(&bytes[..size]);
     }
 }

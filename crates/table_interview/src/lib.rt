@@ -13,18 +13,20 @@ ghost use Rattle.table_interview.specs.Places.{lent, places_for, Holds};
 ghost use Rattle.table_replies.specs.Reply.{tabled};
 ghost use Rattle.interview_beat.specs.Running.{remaining};
 
+use std::io::Write;
+
 // The bytes of a buffer that holds every output whole.
 pub const OUTPUT_BYTES: usize = 163840;
 
 // Beats until the last. A line is handed over when it is known.
-fn run_beats(
+fn run_beats<W: Write>(
     table: &[u64],
     objects: usize,
     start: interview_replies::Interview,
     rows: &mut [u64],
     list: &mut [u64],
     out: &mut [u8],
-    fd: i32,
+    writer: &mut W,
     before: handed_output::Handed,
 ) -> handed_output::Told
     requires along { Along (objects_of objects table.now) (holding start rows.old list.old) start.changes }
@@ -37,7 +39,7 @@ fn run_beats(
     loop {
         let beaten = interview_beat::advance(table, objects, rows, list, interview, out, at);
         let end = beaten.at;
-        handed = handed_output::hand_over(fd, out, at, end, handed);
+        handed = handed_output::hand_over(writer, out, at, end, handed);
         if beaten.last {
             return handed_output::Told { end, handed };
         }
@@ -47,14 +49,14 @@ fn run_beats(
 }
 
 // The interview of a complete table whose rows are in words, from its opening on.
-fn interview_table(
+fn interview_table<W: Write>(
     table: &[u64],
     objects: usize,
     n: usize,
     rows: &mut [u64],
     list: &mut [u64],
     out: &mut [u8],
-    fd: i32,
+    writer: &mut W,
     before: handed_output::Handed,
 ) -> handed_output::Told
     requires { Holds n objects table.now }
@@ -63,7 +65,7 @@ fn interview_table(
     let opened = session_opening::open(n, 0, rows, list, &table[..0]);
     match opened {
         session_opening::Opened::Refused(refusal) => handed_output::write_refusal(
-            refusal, out, fd, before,
+            refusal, out, writer, before,
         ),
         session_opening::Opened::Open(session) => {
             let start = interview_replies::Interview {
@@ -73,19 +75,19 @@ fn interview_table(
                 current: session.current,
                 changes: 0,
             };
-            run_beats(table, objects, start, rows, list, out, fd, before)
+            run_beats(table, objects, start, rows, list, out, writer, before)
         }
     }
 }
 
-// The program's whole output for a table file, in a lent buffer and, line by line as it becomes known, on the descriptor fd, with
+// The program's whole output for a table file, in a lent buffer and, line by line as it becomes known, to the writer, with
 // this many places for rows and rules, of those of a session.
-pub fn hold(
+pub fn hold<W: Write>(
     file: &[u8],
     row_places: usize,
     rule_places: usize,
     out: &mut [u8; OUTPUT_BYTES],
-    fd: i32,
+    writer: &mut W,
 ) -> handed_output::Told
     ensures { Writes out result (output_with (places_for row_places rule_places) file.now) }
 {
@@ -101,7 +103,7 @@ pub fn hold(
     let opened = table_marks::read_complete(file, &mut table);
     match opened {
         table_layout::Opened::Refused(refusal) => handed_output::write_refusal(
-            refusal, out, fd, before,
+            refusal, out, writer, before,
         ),
         table_layout::Opened::Found(layout) => interview_table(
             &table,
@@ -110,7 +112,7 @@ pub fn hold(
             &mut rows[..row_words],
             &mut list[..list_words],
             out,
-            fd,
+            writer,
             before,
         ),
     }

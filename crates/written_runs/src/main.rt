@@ -2,20 +2,19 @@
 // the text, and whether the text, read and written once more, is the same bytes.
 #![tactic(auto)]
 
-use libc::STDOUT_FILENO;
+use std::io::Write;
 use table_layout::Layout;
 use table_writing::Written;
 
-fn put(n: u64) {
-    io::write_all(STDOUT_FILENO, b" ");
-    io::print_decimal(STDOUT_FILENO, n);
+fn put<W: Write>(writer: &mut W, n: u64) {
+    let _ = write!(writer, " {n}");
 }
 
-fn put_refusal(refusal: session::Refusal) {
-    io::write_all(STDOUT_FILENO, b" E");
-    put(refusal.number);
-    put(refusal.place as u64);
-    io::write_all(STDOUT_FILENO, b"\n");
+fn put_refusal<W: Write>(writer: &mut W, refusal: session::Refusal) {
+    let _ = writer.write_all(b" E");
+    put(writer, refusal.number);
+    put(writer, refusal.place as u64);
+    let _ = writer.write_all(b"\n");
 }
 
 // So many bytes, or all where there are fewer.
@@ -25,56 +24,54 @@ fn first(bytes: &[u8], size: usize) -> &[u8] {
 }
 
 // Whether an output begins with a text.
-fn put_same(text: &[u8], out: &[u8], size: usize) {
-    if check::same(text, first(out, size)) {
-        io::write_all(STDOUT_FILENO, b"the same\n");
+fn put_same<W: Write>(writer: &mut W, text: &[u8], out: &[u8], size: usize) {
+    if text == first(out, size) {
+        let _ = writer.write_all(b"the same\n");
     } else {
-        io::write_all(STDOUT_FILENO, b"other bytes\n");
+        let _ = writer.write_all(b"other bytes\n");
     }
 }
 
 // Whether a text, read and written once more, is the same bytes.
-fn put_settled(text: &[u8]) {
+fn put_settled<W: Write>(writer: &mut W, text: &[u8]) {
     let mut again = [0u8; Layout::BYTES];
     let written = rewritten_tables::rewrite(text, &mut again);
     match written {
-        Written::Bytes(size) => put_same(text, &again, size),
-        Written::Refused(refusal) => put_refusal(refusal),
+        Written::Bytes(size) => put_same(writer, text, &again, size),
+        Written::Refused(refusal) => put_refusal(writer, refusal),
     }
 }
 
 // The text that an output begins with.
-fn put_text(out: &[u8], size: usize) {
+fn put_text<W: Write>(writer: &mut W, out: &[u8], size: usize) {
     let text = first(out, size);
-    put(size as u64);
-    io::write_all(STDOUT_FILENO, b"\n");
-    io::write_all(STDOUT_FILENO, text);
-    put_settled(text);
+    put(writer, size as u64);
+    let _ = writer.write_all(b"\n");
+    let _ = writer.write_all(text);
+    put_settled(writer, text);
 }
 
-fn show(file: &[u8]) {
+fn show<W: Write>(writer: &mut W, file: &[u8]) {
     let mut out = [0u8; Layout::BYTES];
     let written = rewritten_tables::rewrite(file, &mut out);
     match written {
-        Written::Bytes(size) => put_text(&out, size),
-        Written::Refused(refusal) => put_refusal(refusal),
+        Written::Bytes(size) => put_text(writer, &out, size),
+        Written::Refused(refusal) => put_refusal(writer, refusal),
     }
 }
 
-fn show_argument(number: usize) {
+fn show_argument(rt: &HostRuntime, number: usize) {
     let mut file = [0u8; Layout::BYTES + 1];
-    let named = named_files::read_argument(number, &mut file);
+    let (mut stdout, mut stderr) = (rt.stdout(), rt.stderr());
+    let named = named_files::read_argument(rt, number, &mut file, &mut stdout, &mut stderr);
     let size = named.size;
     if named.opened {
-        show(&file[..size]);
+        show(&mut stdout, &file[..size]);
     }
 }
 
-fn main() {
-    let count = os::arg_count();
-    let mut i = 1;
-    while i < count {
-        show_argument(i);
-        i += 1;
+fn main(rt: HostRuntime) {
+    for i in 1..named_files::count_arguments(&rt) {
+        show_argument(&rt, i);
     }
 }

@@ -1,6 +1,6 @@
 -- What is handed over part by part: nothing at first (`hands_none`), and with each part what the parts have together (`hands_on`). A text
 -- that fits stands in the buffer whole, and all of it was handed over (`writes-whole`).
-use Rattle.std.specs.Prelude.{◌≡◌, refl, List, Bool, true, false, ℕ, ◌+◌, ◌-◌, ◌≤◌, length, take}
+use Rattle.std.specs.Prelude.{◌≡◌, refl, List, Bool, true, false, ℕ, ◌+◌, ◌≤◌, length, take}
 use Rattle.std.proofs.Common.{sym, ap, ◌∙◌, subst, true≢false, arith}
 use Rattle.text.specs.Page.{Page, page, text}
 use Rattle.text.proofs.Page.Laws.{text-inside, text-length, text_at, text-fits}
