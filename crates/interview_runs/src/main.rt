@@ -34,7 +34,7 @@ fn hold_path(rt: &HostRuntime, path: &[u8]) {
     hold_few(&mut stdout, &file[..size]);
 }
 
-fn hold_argument(rt: &HostRuntime, number: usize) {
+fn hold_arg(rt: &HostRuntime, number: usize) {
     let mut path = [0u8; PATH_BYTES];
     let length = named_files::put_argument(rt, number, &mut path);
     hold_path(rt, &path[..length]);
@@ -42,6 +42,6 @@ fn hold_argument(rt: &HostRuntime, number: usize) {
 
 fn main(rt: HostRuntime) {
     for i in 1..named_files::count_arguments(&rt) {
-        hold_argument(&rt, i);
+        hold_arg(&rt, i);
     }
 }
