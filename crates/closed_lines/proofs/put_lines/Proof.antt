@@ -24,7 +24,6 @@ invariant-loop out₀ at bytes count to₀ from₀ i₀ out to from i =
 abbrev decreases-loop : tie.decreases-loop-i
 decreases-loop out₀ at bytes count to₀ from₀ i₀ out to from i = count - i
 
--- the places: the start, before the loop; a turn of it, the line that is found in it, and what the turn writes
 abbrev bytes : tie.At-loop-i invariant-loop decreases-loop → List ℕ
 bytes c = c.args.bytes.now
 

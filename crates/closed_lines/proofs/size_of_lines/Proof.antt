@@ -21,7 +21,6 @@ invariant-loop bytes count size₀ from₀ i₀ size from i =
 abbrev decreases-loop : tie.decreases-loop-i
 decreases-loop bytes count size₀ from₀ i₀ size from i = count - i
 
--- the places: a turn of the loop, and the line that is found in it
 abbrev bytes : tie.At-loop-i invariant-loop decreases-loop → List ℕ
 bytes c = c.args.bytes.now
 

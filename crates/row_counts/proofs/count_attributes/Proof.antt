@@ -15,7 +15,6 @@ invariant-loop counts₀ n marks left₀ j₀ counts left j = Adding marks j lef
 abbrev decreases-loop : tie.decreases-loop-j
 decreases-loop counts₀ n marks left₀ j₀ counts left j = n - j
 
--- a turn of the loop
 -- the attribute has a count
 inside : (c : tie.After-slice_known-1 invariant-loop decreases-loop) → let l = c.loop-j in l.j < length l.counts
 inside c = omega (arith, c.loop-j-test.true, c.loop-j.invariant.same_length, c.requires.0)

@@ -6,7 +6,6 @@ use Rattle.nearly_always.proofs.Nearly.Counting.Laws.{counts-has, counts-lacks}
 use Rattle.row_counts.proofs.count_row.Statement.{statement}
 use Rattle.row_counts.proofs.count_row.Tie as tie
 
--- behind the count
 returns : tie.Need-returns-then-premise-yes
 unfolding inside
 returns c = counts-lacks _ _ _ _ _ (ne_eqb _ _ c.if-premise-yes.true)

@@ -19,7 +19,6 @@ invariant-loop rows used premise counts₀ n total₀ i₀ counts total i =
 abbrev decreases-loop : tie.decreases-loop-i
 decreases-loop rows used premise counts₀ n total₀ i₀ counts total i = used - i
 
--- the places: the start, before the loop; a turn of it, and what it counts
 loop-holds : tie.Need-loop-i-init invariant-loop decreases-loop
 loop-holds c =
     let a = c.args in

@@ -10,7 +10,6 @@ use borrow.Author.Rules.{rules}
 use Rattle.row_counts.proofs.list_in_range.Statement.{statement}
 use Rattle.row_counts.proofs.list_in_range.Tie as tie
 
--- the places: the start, and behind the count of the rows
 count-rows-requires : tie.Need-count_rows-total-requires
 count-rows-requires c κs =
     let p = c.requires in

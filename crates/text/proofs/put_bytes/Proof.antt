@@ -17,7 +17,6 @@ invariant-loop out₀ at bytes to₀ i₀ out to i = text (page out to) (drop i 
 abbrev decreases-loop : tie.decreases-loop-i
 decreases-loop out₀ at bytes to₀ i₀ out to i = length bytes - i
 
--- the places: the start, before the loop; a turn of it, and the byte that the turn writes
 loop-again : tie.Need-loop-i-preserved invariant-loop decreases-loop
 loop-again c =
     let l = c.loop-i in

@@ -17,7 +17,6 @@ invariant-loop out₀ at n to₀ power₀ out to power =
 abbrev decreases-loop : tie.decreases-loop-power
 decreases-loop out₀ at n to₀ power₀ out to power = power
 
--- the places: the start, before the loop; a turn of it, and the byte that the turn writes
 loop-holds : tie.Need-loop-power-init invariant-loop decreases-loop
 loop-holds c =
     let a = c.args in

@@ -31,7 +31,6 @@ invariant-loop out₀ at n set to₀ left₀ i₀ out to left i = text (page out
 abbrev decreases-loop : tie.decreases-loop-i
 decreases-loop out₀ at n set to₀ left₀ i₀ out to left i = n - i
 
--- the places: the start, before the loop; a turn of it, and the byte that the turn writes
 loop-holds : tie.Need-loop-i-init invariant-loop decreases-loop
 loop-holds c = rw sub-zero
 
