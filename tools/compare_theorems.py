@@ -73,7 +73,7 @@ def main(argv):
                     print(f"gone: {name} {n}: {t[:200]}")
                 else:
                     changed += 1
-                    print(f"changed: {name} {n}\n    - {t[:600]}\n    + {here[0][:600]}")
+                    print(f"changed: {name} {n}\n    - {t}\n    + {here[0]}")
     print(f"{same} the same, {changed} changed, {gone} gone")
     return 0
 
