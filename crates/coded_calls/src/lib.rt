@@ -25,7 +25,8 @@ pub fn step(session: session::Session, rows: &[u64], list: &[u64], background: &
 
 // 01's yes: the standing question becomes the next rule of the list.
 pub fn accept(session: session::Session, rows: &[u64], list: &mut [u64], background: &[u64]) -> Turn
-    ensures { Turned code_of accepting session (shared rows) (mutable list) (shared background) result.answer result.session result.changed }
+    ensures { Turned code_of accepting session (shared rows) (mutable list) (shared background)
+        result.answer result.session result.changed }
 {
     let made = session_yes::accept(session, rows, list, background);
     let answer = made.answer;
@@ -46,7 +47,8 @@ pub fn reject(
     yes: u64,
     no: u64,
 ) -> Turn
-    ensures { Turned code_of (rejecting (object yes no)) session (mutable rows) (shared list) (shared background) result.answer result.session result.changed }
+    ensures { Turned code_of (rejecting (object yes no)) session (mutable rows) (shared list) (shared background)
+        result.answer result.session result.changed }
 {
     let made = session_no::reject(session, rows, list, background, yes, no);
     let answer = made.answer;
@@ -67,7 +69,8 @@ pub fn file_row(
     yes: u64,
     no: u64,
 ) -> Turn
-    ensures { Turned code_of (file (object yes no)) session (mutable rows) (shared list) (shared background) result.answer result.session result.changed }
+    ensures { Turned code_of (file (object yes no)) session (mutable rows) (shared list) (shared background)
+        result.answer result.session result.changed }
 {
     let made = session_filing::file_row(session, rows, list, background, yes, no);
     let answer = made.answer;

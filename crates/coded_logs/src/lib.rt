@@ -24,7 +24,8 @@ pub fn replay_coded(
     calls: &[u64],
     answers: &mut [u64],
 ) -> coded_opening::Turn
-    ensures { ReplaysCoded session (mutable rows) (mutable list) (shared background) (shared calls) (mutable answers) result.answer result.session result.changed }
+    ensures { ReplaysCoded session (mutable rows) (mutable list) (shared background) (shared calls) (mutable answers)
+        result.answer result.session result.changed }
 {
     let replayed = call_logs::replay(session, rows, list, background, calls, answers);
     let log = replayed.log;

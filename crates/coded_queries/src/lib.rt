@@ -17,7 +17,8 @@ pub fn follows(
     premise: u64,
     conclusion: u64,
 ) -> answer_words::Answer
-    ensures { Made code_of (follow (implication premise conclusion)) session (shared rows) (shared list) (shared background) result session }
+    ensures { Made code_of (follow (implication premise conclusion)) session (shared rows) (shared list) (shared background)
+        result session }
 {
     let answer = session_queries::follows(session, rows, list, background, premise, conclusion);
     coded_answers::answer_of_following(answer)
@@ -32,7 +33,8 @@ pub fn refuted(
     premise: u64,
     conclusion: u64,
 ) -> answer_words::Answer
-    ensures { Made code_of (refute (implication premise conclusion)) session (shared rows) (shared list) (shared background) result session }
+    ensures { Made code_of (refute (implication premise conclusion)) session (shared rows) (shared list) (shared background)
+        result session }
 {
     let answer = session_queries::refuted(session, rows, list, background, premise, conclusion);
     coded_answers::answer_of_refuting(answer)

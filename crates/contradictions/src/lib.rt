@@ -33,7 +33,8 @@ fn contradiction_among(
     conclusion: u64,
 ) -> usize
     requires { count * 2 ≤ length rows.now }
-    ensures { result ≡ lowest (contradicts (with_rule (shared background) (shared list) rules premise conclusion)) (objects_of count rows.now) }
+    ensures { result ≡ lowest (contradicts (with_rule (shared background) (shared list) rules premise conclusion))
+        (objects_of count rows.now) }
 {
     let mut i = 0;
     while i < count {
@@ -63,7 +64,8 @@ pub fn first_contradiction(
     premise: u64,
     conclusion: u64,
 ) -> usize
-    ensures { result ≡ lowest (contradicts (with_rule (shared background) (shared list) rules premise conclusion)) (objects_of count rows.now) }
+    ensures { result ≡ lowest (contradicts (with_rule (shared background) (shared list) rules premise conclusion))
+        (objects_of count rows.now) }
 {
     let whole = closures::smaller(count, rows.len() / 2);
     let place = contradiction_among(rows, whole, list, rules, background, premise, conclusion);

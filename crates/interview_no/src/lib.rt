@@ -19,7 +19,8 @@ pub fn say_no(
     out: &mut [u8],
     at: usize,
 ) -> Beaten
-    ensures { Beats (no_beat interview (mutable rows) (shared list) conclusion number (object yes no)) (mutable rows) (shared list) out at result }
+    ensures { Beats (no_beat interview (mutable rows) (shared list) conclusion number (object yes no))
+        (mutable rows) (shared list) out at result }
 {
     let used = interview.rows;
     let n = interview.n;

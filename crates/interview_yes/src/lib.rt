@@ -17,7 +17,8 @@ pub fn say_yes(
     out: &mut [u8],
     at: usize,
 ) -> Beaten
-    ensures { interview.n ≤ most_attributes → Beats (yes_beat interview (shared rows) (mutable list) conclusion) (shared rows) (mutable list) out at result }
+    ensures { interview.n ≤ most_attributes → Beats (yes_beat interview (shared rows) (mutable list) conclusion)
+        (shared rows) (mutable list) out at result }
 {
     let n = interview.n;
     let rules = interview.rules;

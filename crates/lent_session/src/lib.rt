@@ -55,7 +55,8 @@ pub fn reject(
     yes: u64,
     no: u64,
 ) -> session_replies::Reply
-    ensures { PerformsOn (rejecting (object yes no)) (mutable session) (mutable rows) (shared list) (shared background) (reply_answer result) }
+    ensures { PerformsOn (rejecting (object yes no)) (mutable session) (mutable rows) (shared list) (shared background)
+        (reply_answer result) }
 {
     let held = *session;
     let turn = session_no::reject(held, rows, list, background, yes, no);
@@ -74,7 +75,8 @@ pub fn follows(
     premise: u64,
     conclusion: u64,
 ) -> session_queries::Following
-    ensures { PerformsOn (follow (implication premise conclusion)) (shared session) (shared rows) (shared list) (shared background) (following_answer result) }
+    ensures { PerformsOn (follow (implication premise conclusion)) (shared session) (shared rows) (shared list) (shared background)
+        (following_answer result) }
 {
     session_queries::follows(*session, rows, list, background, premise, conclusion)
 }
@@ -88,7 +90,8 @@ pub fn refuted(
     premise: u64,
     conclusion: u64,
 ) -> session_queries::Refuting
-    ensures { PerformsOn (refute (implication premise conclusion)) (shared session) (shared rows) (shared list) (shared background) (refuting_answer result) }
+    ensures { PerformsOn (refute (implication premise conclusion)) (shared session) (shared rows) (shared list) (shared background)
+        (refuting_answer result) }
 {
     session_queries::refuted(*session, rows, list, background, premise, conclusion)
 }
@@ -136,7 +139,8 @@ pub fn fill_row(
     yes: u64,
     no: u64,
 ) -> session_replies::Reply
-    ensures { PerformsOn (fill row (object yes no)) (mutable session) (mutable rows) (shared list) (shared background) (reply_answer result) }
+    ensures { PerformsOn (fill row (object yes no)) (mutable session) (mutable rows) (shared list) (shared background)
+        (reply_answer result) }
 {
     session_late_marks::fill_row(*session, rows, list, background, row, yes, no)
 }

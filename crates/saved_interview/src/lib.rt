@@ -38,7 +38,8 @@ pub fn open_and_replay(
     calls: &[u64],
     answers: &mut [u64],
 ) -> coded_opening::Turn
-    ensures { TakesUpTo n used session (mutable rows) (mutable list) (shared background) (shared calls) (mutable answers) result.answer result.session result.changed }
+    ensures { TakesUpTo n used session (mutable rows) (mutable list) (shared background) (shared calls) (mutable answers)
+        result.answer result.session result.changed }
 {
     let opened = session_opening::open(n, used, rows, list, background);
     let start = match opened {

@@ -17,7 +17,8 @@ pub fn file_row(
     yes: u64,
     no: u64,
 ) -> session_replies::Replied
-    ensures { Turns (file (object yes no)) session (mutable rows) (shared list) (shared background) (reply_answer result.answer) result.session result.changed }
+    ensures { Turns (file (object yes no)) session (mutable rows) (shared list) (shared background)
+        (reply_answer result.answer) result.session result.changed }
 {
     let verdict = session_checks::check_session(session, rows, list, background, 0, 0);
     if let size_checks::Verdict::Refused(refusal) = verdict {

@@ -17,7 +17,8 @@ pub fn reject(
     yes: u64,
     no: u64,
 ) -> session_replies::Replied
-    ensures { Turns (rejecting (object yes no)) session (mutable rows) (shared list) (shared background) (reply_answer result.answer) result.session result.changed }
+    ensures { Turns (rejecting (object yes no)) session (mutable rows) (shared list) (shared background)
+        (reply_answer result.answer) result.session result.changed }
 {
     let tested = session_test::test_row(session, rows, list, background, yes, no);
     if let session_test::Testing::Refused(refusal) = tested {

@@ -31,7 +31,8 @@ pub fn follows(
     premise: u64,
     conclusion: u64,
 ) -> Following
-    ensures { Performs (follow (implication premise conclusion)) session (shared rows) (shared list) (shared background) (following_answer result) session }
+    ensures { Performs (follow (implication premise conclusion)) session (shared rows) (shared list) (shared background)
+        (following_answer result) session }
 {
     let rules = session.rules;
     let verdict = session_checks::check_session(
@@ -55,7 +56,8 @@ pub fn refuted(
     premise: u64,
     conclusion: u64,
 ) -> Refuting
-    ensures { Performs (refute (implication premise conclusion)) session (shared rows) (shared list) (shared background) (refuting_answer result) session }
+    ensures { Performs (refute (implication premise conclusion)) session (shared rows) (shared list) (shared background)
+        (refuting_answer result) session }
 {
     let used = session.rows;
     let verdict = session_checks::check_session(

@@ -30,7 +30,8 @@ pub fn make_step(
     list: &[u64],
     background: &[u64],
 ) -> Stepped
-    ensures { Turns stepping session (shared rows) (shared list) (shared background) (step_answer result.answer) result.session result.changed }
+    ensures { Turns stepping session (shared rows) (shared list) (shared background)
+        (step_answer result.answer) result.session result.changed }
 {
     let standing = standing::find_standing(session, rows, list, background);
     match standing {

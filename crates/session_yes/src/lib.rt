@@ -14,7 +14,8 @@ pub fn accept(
     list: &mut [u64],
     background: &[u64],
 ) -> session_replies::Replied
-    ensures { Turns accepting session (shared rows) (mutable list) (shared background) (reply_answer result.answer) result.session result.changed }
+    ensures { Turns accepting session (shared rows) (mutable list) (shared background)
+        (reply_answer result.answer) result.session result.changed }
 {
     let n = session.n;
     let rules = session.rules;

@@ -1,3 +1,4 @@
+-- No byte is read past the end of the buffer, and each turn reads at least one more.
 use Rattle.std.proofs.Common.{length, ◌-◌, ◌≤◌}
 use Rattle.named_files.proofs.read_full.Given as goal
 

@@ -1,3 +1,4 @@
+-- The words found so far are within the error.
 use Rattle.std.proofs.Common.{length, ◌≤◌}
 use Rattle.named_files.proofs.size_of_words.Given as goal
 

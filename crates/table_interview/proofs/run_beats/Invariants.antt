@@ -1,3 +1,4 @@
+-- What is written and what the interview still writes make the whole; all of what is written is handed over; each beat but the last comes nearer to the end.
 use Rattle.std.proofs.Common.{length, ◌+◌, ◌≤◌}
 use Rattle.context.specs.Objects.{objects_of}
 use Rattle.transcript.proofs.Output.Ends.{measure}
