@@ -15,7 +15,7 @@ pub struct Answer {
 }
 
 impl Answer {
-    // The codes of the answers that are no refusals.
+    // The codes of the answers that are no refusals: numbers, as C reads them.
     pub const FINISHED: u64 = 100;
 
     pub const MOVED: u64 = 101;
@@ -50,8 +50,10 @@ pub fn in_words(code: u64, first: u64, second: u64) -> Answer
 }
 
 // A refusal has its own number as its code, and its place as the first value.
-pub fn answer_of_refusal(refusal: session::Refusal) -> Answer
-    ensures { result ≡ code_of (refused refusal) }
-{
-    in_words(refusal.number, refusal.place as u64, 0)
+impl From<session::Refusal> for Answer {
+    ghost from_gives = { λ refusal answer. answer ≡ code_of (refused refusal) };
+
+    fn from(refusal: session::Refusal) -> Answer {
+        in_words(refusal.number, refusal.place as u64, 0)
+    }
 }

@@ -1,6 +1,6 @@
 -- Logs of an interview: calls as four words each (kind, three arguments), answers as three words each (code, two values), and
 -- what the plain machine makes of a log. An unknown kind gets a code of its own and changes nothing.
-use Rattle.std.specs.Prelude.{◌≡◌, Bool, not, List, [], ◌∷◌, ◌++◌, ℕ, zero, suc, ◌+◌, ◌*◌, ◌/◌, ◌≤◌, ◌<◌, length, get_or, drop, set}
+use Rattle.std.specs.Prelude.{◌≡◌, Result, Ok, Err, Bool, not, List, [], ◌∷◌, ◌++◌, ℕ, zero, suc, ◌+◌, ◌*◌, ◌/◌, ◌≤◌, ◌<◌, length, get_or, drop, set}
 use Rattle.std.proofs.Math.Option.{Option, none, some}
 use Rattle.machine.specs.Checks.{State}
 use Rattle.machine.specs.Machine.{Call, perform, run}
@@ -10,8 +10,7 @@ use Rattle.session.specs.Records.{same_session}
 use Rattle.answer_words.specs.Codes.{coded, code_of, LentAnswer}
 use Rattle.answer_words.specs.declared.Answer.{Answer as Coded}
 use Rattle.logged_calls.specs.Kinds.{call_of}
-use Rattle.call_logs.specs.declared.Log.{Log}
-use Rattle.call_logs.specs.declared.Log.TheVariants.{Replayed, Short}
+use Rattle.call_logs.specs.declared.NoRoom.{NoRoom}
 
 -- a log: the first n calls of a slice of words
 unfoldable pub calls_of : ℕ → List ℕ → List (Option Call)
@@ -63,10 +62,19 @@ log_words rows list answers = record { rows = rows; list = list; answers = answe
 abbrev pub log_of : List ℕ → List (Option Call)
 log_of calls = calls_of (length calls / 4) calls
 
+-- what a replay gives: the record after the calls, or that the answers have no room for them
+abbrev pub Replayed : Type 0
+Replayed = Result Session NoRoom
+
 -- whether a log was replayed, in three words
-abbrev pub code_of_log : Log → Coded
-code_of_log Replayed = coded 103 0 0
-code_of_log Short = coded 3 0 0
+abbrev pub code_of_log : Replayed → Coded
+code_of_log (Ok s) = coded 103 0 0
+code_of_log (Err e) = coded 3 0 0
+
+-- the record that is left: the one after the calls, or the given one
+abbrev pub left_by : Replayed → Session → Session
+left_by (Ok s) given = s
+left_by (Err e) given = given
 
 module _ (background calls : List ℕ) (s : Session) (before : LogWords) (s' : Session) (after : LogWords) where
   -- every call was made: record and words hold the machine's state after the log, the answers are the machine's, one after the
@@ -77,26 +85,25 @@ module _ (background calls : List ℕ) (s : Session) (before : LogWords) (s' : S
     pub rows : PastKept s.rows s'.rows before.rows after.rows
     pub list : PastKept s.rules s'.rules before.list after.list
 
-  -- nothing was done, as the answers have no room for all calls
-  pub record NoneMade : Type 0 where
-    pub short : length before.answers / 3 < length calls / 4
-    pub same_record : s' ≡ s
-    pub same_words : after ≡ before
+-- nothing was done, as the answers have no room for all calls
+pub record NoneMade (calls : List ℕ) (before after : LogWords) : Type 0 where
+  pub short : length before.answers / 3 < length calls / 4
+  pub same_words : after ≡ before
 
-  abbrev pub ReplaySays : Log → Type 0
-  ReplaySays Replayed = AllMade
-  ReplaySays Short = NoneMade
+abbrev pub ReplaySays : List ℕ → List ℕ → Session → LogWords → LogWords → Replayed → Type 0
+ReplaySays background calls s before after (Ok s') = AllMade background calls s before s' after
+ReplaySays background calls s before after (Err e) = NoneMade calls before after
 
 -- what a replay promises of the lent words: rows, list, background, calls, answers
-abbrev pub Replays : Session → Words → Words → Words → Words → Words → Log → Session → Type 0
-Replays s rows list background calls answers log after =
-    ReplaySays background.entry.now calls.entry.now s (log_words rows.entry.now list.entry.now answers.entry.now) after
-    (log_words rows.exit.now list.exit.now answers.exit.now) log
+abbrev pub Replays : Session → Words → Words → Words → Words → Words → Replayed → Type 0
+Replays s rows list background calls answers =
+    ReplaySays background.entry.now calls.entry.now s (log_words rows.entry.now list.entry.now answers.entry.now)
+    (log_words rows.exit.now list.exit.now answers.exit.now)
 
--- the same, in three words: made (103), or no room (3)
+-- the same, in three words: made (103), or no room (3), where the record is left as it was
 abbrev pub ReplaysInWords : Session → Words → Words → Words → Words → Words → Coded → Session → Type 0
 ReplaysInWords s rows list background calls answers x after =
-    (log : Log) × (x ≡ code_of_log log) × Replays s rows list background calls answers log after
+    (log : Replayed) × (x ≡ code_of_log log) × (after ≡ left_by log s) × Replays s rows list background calls answers log
 
 -- over a lent record, with the answer put where the caller says
 abbrev pub ReplaysOn : Record → Words → Words → Words → Words → Words → LentAnswer → Type 0

@@ -5,21 +5,15 @@ ghost use Rattle.context.specs.Parts.{mutable, shared};
 ghost use Rattle.std.specs.Prelude.{◌≡◌, ◌+◌, ◌*◌, ◌≤◌, length};
 ghost use Rattle.call_logs.specs.Replay.{stored, Replays};
 
-#[derive(Clone, Copy)]
-pub enum Log {
-    Replayed,
-    // The answers have no room for all calls.
-    Short,
-}
+use answer_words::Answer;
+use session::Session;
 
+// The answers have no room for all calls.
 #[derive(Clone, Copy)]
-pub struct Replayed {
-    pub log: Log,
-    pub session: session::Session,
-}
+pub struct NoRoom;
 
 // The three words of an answer at its place.
-fn write_answer(answers: &mut [u64], i: usize, answer: answer_words::Answer)
+fn write_answer(answers: &mut [u64], i: usize, answer: Answer)
     requires { (i + 1) * 3 ≤ length answers.old }
     ensures { answers.new ≡ stored answers.old i answer }
 {
@@ -29,27 +23,25 @@ fn write_answer(answers: &mut [u64], i: usize, answer: answer_words::Answer)
     answers[at + 2] = answer.second;
 }
 
-// Makes each call of a log and writes down its answer; where the answers have no room for all, nothing is done.
+// Makes each call of a log and writes down its answer, and gives the record after them; where the answers have no room for all,
+// nothing is done.
 pub fn replay(
-    session: session::Session,
+    session: Session,
     rows: &mut [u64],
     list: &mut [u64],
     background: &[u64],
     calls: &[u64],
     answers: &mut [u64],
-) -> Replayed
-    ensures { Replays session (mutable rows) (mutable list) (shared background) (shared calls) (mutable answers) result.log result.session }
+) -> Result<Session, NoRoom>
+    ensures { Replays session (mutable rows) (mutable list) (shared background) (shared calls) (mutable answers) result }
 {
     let count = calls.len() / 4;
     if answers.len() / 3 < count {
-        return Replayed {
-            log: Log::Short,
-            session,
-        };
+        return Err(NoRoom);
     }
     let mut current = session;
-    let mut i = 0;
-    while i < count {
+    // By number: each answer is stored in the lent words, of which `as_chunks_mut` says nothing once its parts are written.
+    for i in 0..count {
         let at = i * 4;
         let turn = logged_calls::replay_one(
             current,
@@ -61,13 +53,8 @@ pub fn replay(
             calls[at + 2],
             calls[at + 3],
         );
-        let answer = turn.answer;
-        write_answer(answers, i, answer);
+        write_answer(answers, i, turn.answer);
         current = turn.session;
-        i += 1;
     }
-    Replayed {
-        log: Log::Replayed,
-        session: current,
-    }
+    Ok(current)
 }

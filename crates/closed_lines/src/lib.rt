@@ -19,8 +19,7 @@ pub fn put_lines(out: &mut [u8], at: usize, bytes: &[u8], count: usize) -> usize
 {
     let mut to = at;
     let mut from = 0;
-    let mut i = 0;
-    while i < count {
+    for _ in 0..count {
         if bytes.len() <= from {
             return to;
         }
@@ -28,7 +27,6 @@ pub fn put_lines(out: &mut [u8], at: usize, bytes: &[u8], count: usize) -> usize
         let end = from + line.size;
         to = put_line(out, to, &bytes[from..end]);
         from += line.step;
-        i += 1;
     }
     to
 }
@@ -39,15 +37,13 @@ pub fn size_of_lines(bytes: &[u8], count: usize) -> usize
 {
     let mut size = 0;
     let mut from = 0;
-    let mut i = 0;
-    while i < count {
+    for _ in 0..count {
         if bytes.len() <= from {
             return size;
         }
         let line = line_ends::line_at(bytes, from);
         size += line.size;
         from += line.step;
-        i += 1;
     }
     size
 }

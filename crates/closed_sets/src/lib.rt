@@ -10,9 +10,7 @@ ghost use Rattle.next_set.specs.Next.{next};
 pub fn next_of(background: &[u64], list: &[u64], count: usize, n: usize, set: u64) -> u64
     ensures { result ≡ next (in_force background.now list.now count) (min n 64) set }
 {
-    let mut j = closures::smaller(n, 64);
-    while 0 < j {
-        j -= 1;
+    for j in (0..n.min(64)).rev() {
         if set_words::digit_of(set, j) == 0 {
             let stop = set_words::difference(set_words::full_set(j), set);
             let raised = set_words::raised(set, j);

@@ -5,34 +5,22 @@ ghost use Rattle.std.specs.Prelude.{◌≡◌, ◌*◌, ◌≤◌, min, length};
 ghost use Rattle.implication.specs.Closure.{implications_of, in_force, closure};
 ghost use Rattle.implication.specs.Until.{PassUntil, CloseUntil};
 
-// The smaller of two numbers.
-pub fn smaller(a: usize, b: usize) -> usize
-    ensures { result ≡ min a b }
-{
-    if a < b {
-        return a;
-    }
-    b
-}
-
 // One pass over the first count implications, given up as soon as one brings a member of stop.
 fn pass_until(rules: &[u64], count: usize, set: u64, stop: u64) -> u64
     requires { count * 2 ≤ length rules.now }
     ensures { PassUntil (implications_of count rules.now) set stop result }
 {
+    let (pairs, _) = rules.as_chunks::<2>();
     let mut s = set;
-    let mut i = 0;
-    while i < count {
-        let at = i * 2;
-        let premise = rules[at];
+    for rule in &pairs[..count] {
+        let premise = rule[0];
         if premise & s == premise {
-            let t = s | rules[at + 1];
+            let t = s | rule[1];
             if t & stop != 0 {
                 return t;
             }
             s = t;
         }
-        i += 1;
     }
     s
 }
@@ -43,7 +31,7 @@ pub fn close_until(background: &[u64], list: &[u64], count: usize, set: u64, sto
     ensures { CloseUntil (closure (in_force background.now list.now count) set) stop result }
 {
     let b = background.len() / 2;
-    let l = smaller(count, list.len() / 2);
+    let l = count.min(list.len() / 2);
     let mut s = set;
     loop {
         let first = pass_until(background, b, s, stop);

@@ -1,4 +1,5 @@
-// The answers of a session's calls in three words.
+// The answers of a session's calls in three words: functions and no `From`, since neither the results nor `Answer` are this crate's. Each
+// has a clause of its own, also where two differ in a code alone.
 #![tactic(auto)]
 
 ghost use Rattle.std.specs.Prelude.{◌≡◌};
@@ -8,60 +9,61 @@ ghost use Rattle.session_replies.specs.Answers.{reply_answer};
 ghost use Rattle.session_test.specs.Answers.{testing_answer};
 ghost use Rattle.answer_words.specs.Codes.{code_of};
 
-use answer_words::{Answer, answer_of_refusal, in_words};
+use answer_words::{Answer, in_words};
+use session::Refusal;
+use session_steps::Step;
 
 // The answer to a step.
-pub fn answer_of_step(answer: session_steps::Step) -> Answer
+pub fn answer_of_step(answer: Result<Step, Refusal>) -> Answer
     ensures { result ≡ code_of (step_answer answer) }
 {
     match answer {
-        session_steps::Step::Finished => in_words(Answer::FINISHED, 0, 0),
-        session_steps::Step::Moved => in_words(Answer::MOVED, 0, 0),
-        session_steps::Step::Asked(question) => {
+        Ok(Step::Finished) => in_words(Answer::FINISHED, 0, 0),
+        Ok(Step::Moved) => in_words(Answer::MOVED, 0, 0),
+        Ok(Step::Asked(question)) => {
             in_words(Answer::ASKED, question.premise, question.conclusion)
         }
-        session_steps::Step::Refused(refusal) => answer_of_refusal(refusal),
+        Err(refusal) => Answer::from(refusal),
     }
 }
 
-// The answer to a yes, a no or a filing.
-pub fn answer_of_reply(answer: session_replies::Reply) -> Answer
+// The answer to a yes, a no, a filing or a filling.
+pub fn answer_of_reply(answer: Result<(), Refusal>) -> Answer
     ensures { result ≡ code_of (reply_answer answer) }
 {
     match answer {
-        session_replies::Reply::Taken => in_words(Answer::TAKEN, 0, 0),
-        session_replies::Reply::Refused(refusal) => answer_of_refusal(refusal),
+        Ok(()) => in_words(Answer::TAKEN, 0, 0),
+        Err(refusal) => Answer::from(refusal),
     }
 }
 
 // The answer to a question whether an implication follows.
-pub fn answer_of_following(answer: session_queries::Following) -> Answer
+pub fn answer_of_following(answer: Result<bool, Refusal>) -> Answer
     ensures { result ≡ code_of (following_answer answer) }
 {
     match answer {
-        session_queries::Following::Follows => in_words(Answer::FOLLOWS, 1, 0),
-        session_queries::Following::Lacking => in_words(Answer::FOLLOWS, 0, 0),
-        session_queries::Following::Refused(refusal) => answer_of_refusal(refusal),
+        Ok(follows) => in_words(Answer::FOLLOWS, follows as u64, 0),
+        Err(refusal) => Answer::from(refusal),
     }
 }
 
 // The answer to a question whether a row refutes an implication.
-pub fn answer_of_refuting(answer: session_queries::Refuting) -> Answer
+pub fn answer_of_refuting(answer: Result<Option<usize>, Refusal>) -> Answer
     ensures { result ≡ code_of (refuting_answer answer) }
 {
     match answer {
-        session_queries::Refuting::By(row) => in_words(Answer::REFUTED, row as u64, 0),
-        session_queries::Refuting::Nothing => in_words(Answer::UNREFUTED, 0, 0),
-        session_queries::Refuting::Refused(refusal) => answer_of_refusal(refusal),
+        Ok(Some(row)) => in_words(Answer::REFUTED, row as u64, 0),
+        Ok(None) => in_words(Answer::UNREFUTED, 0, 0),
+        Err(refusal) => Answer::from(refusal),
     }
 }
 
 // The answer to a test.
-pub fn answer_of_testing(answer: session_test::Testing) -> Answer
+pub fn answer_of_testing(answer: Result<(), Refusal>) -> Answer
     ensures { result ≡ code_of (testing_answer answer) }
 {
     match answer {
-        session_test::Testing::Refutes => in_words(Answer::REFUTES, 0, 0),
-        session_test::Testing::Refused(refusal) => answer_of_refusal(refusal),
+        Ok(()) => in_words(Answer::REFUTES, 0, 0),
+        Err(refusal) => Answer::from(refusal),
     }
 }

@@ -5,6 +5,7 @@ ghost use Rattle.std.specs.Prelude.{◌≡◌};
 ghost use Rattle.name_spans.specs.Spans.{object_span, attribute_span};
 ghost use Rattle.coded_tables.specs.Tables.{code_of_span};
 
+// A function and no `From`: neither type is this crate's.
 fn answer_of_span(span: name_spans::Span) -> answer_words::Answer
     ensures { result ≡ code_of_span span }
 {

@@ -5,25 +5,30 @@ ghost use Rattle.table_layout.specs.Layout.{opened_of};
 ghost use Rattle.complete_tables.specs.Complete.{opened_complete};
 ghost use Rattle.coded_tables.specs.Tables.{FindsTable, ReadsMarks};
 
+use answer_words::Answer;
+use session::Refusal;
+use table_layout::Layout;
+
 // The answer to a call, the layout after it, and whether it differs from the one before.
+// Not a Result: the layout is given back on a refusal too (`FindsTable`).
 #[derive(Clone, Copy)]
 pub struct Found {
-    pub answer: answer_words::Answer,
-    pub layout: table_layout::Layout,
+    pub answer: Answer,
+    pub layout: Layout,
     pub changed: bool,
 }
 
-fn found_as(opened: table_layout::Opened, layout: table_layout::Layout) -> Found
+fn found_as(opened: Result<Layout, Refusal>, layout: Layout) -> Found
     ensures { FindsTable opened layout result.answer result.layout result.changed }
 {
     match opened {
-        table_layout::Opened::Found(table) => Found {
-            answer: answer_words::in_words(answer_words::Answer::TAKEN, 0, 0),
+        Ok(table) => Found {
+            answer: answer_words::in_words(Answer::TAKEN, 0, 0),
             layout: table,
             changed: true,
         },
-        table_layout::Opened::Refused(refusal) => Found {
-            answer: answer_words::answer_of_refusal(refusal),
+        Err(refusal) => Found {
+            answer: Answer::from(refusal),
             layout,
             changed: false,
         },
@@ -31,32 +36,25 @@ fn found_as(opened: table_layout::Opened, layout: table_layout::Layout) -> Found
 }
 
 // Opens a table file: 21 to 28.
-pub fn open(layout: table_layout::Layout, file: &[u8]) -> Found
+pub fn open(layout: Layout, file: &[u8]) -> Found
     ensures { FindsTable (opened_of file.now) layout result.answer result.layout result.changed }
 {
-    let opened = table_layout::open(file);
-    found_as(opened, layout)
+    found_as(table_layout::open(file), layout)
 }
 
 // Opens a table file that has to be complete: 21 to 29.
-pub fn open_complete(layout: table_layout::Layout, file: &[u8]) -> Found
+pub fn open_complete(layout: Layout, file: &[u8]) -> Found
     ensures { FindsTable (opened_complete file.now) layout result.answer result.layout result.changed }
 {
-    let opened = complete_tables::open_complete(file);
-    found_as(opened, layout)
+    found_as(complete_tables::open_complete(file), layout)
 }
 
 // The marks of an opened table, its file and its layout, into lent row words: 2, 21 to 28, 3.
-pub fn read_marks(
-    layout: table_layout::Layout,
-    file: &[u8],
-    rows: &mut [u64],
-) -> answer_words::Answer
+pub fn read_marks(layout: Layout, file: &[u8], rows: &mut [u64]) -> Answer
     ensures { ReadsMarks layout file rows result }
 {
-    let opened = table_marks::read_marks_of(file, layout, rows);
-    match opened {
-        table_layout::Opened::Found(_) => answer_words::in_words(answer_words::Answer::TAKEN, 0, 0),
-        table_layout::Opened::Refused(refusal) => answer_words::answer_of_refusal(refusal),
+    match table_marks::read_marks_of(file, layout, rows) {
+        Ok(_) => answer_words::in_words(Answer::TAKEN, 0, 0),
+        Err(refusal) => Answer::from(refusal),
     }
 }

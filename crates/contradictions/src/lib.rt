@@ -2,7 +2,7 @@
 #![tactic(auto)]
 
 ghost use Rattle.context.specs.Parts.{shared};
-ghost use Rattle.std.specs.Prelude.{◌≡◌, ◌*◌, ◌≤◌, length};
+ghost use Rattle.std.specs.Prelude.{◌≡◌};
 ghost use Rattle.context.specs.Places.{lowest};
 ghost use Rattle.context.specs.Objects.{object, objects_of, contradicts};
 ghost use Rattle.contradictions.specs.Contradictions.{with_rule};
@@ -22,38 +22,6 @@ fn contradiction(
     following::closure_with(background, list, rules, premise, conclusion, yes) & no != 0
 }
 
-// The first of count rows that contradicts them, all within the slice; count where none does.
-fn contradiction_among(
-    rows: &[u64],
-    count: usize,
-    list: &[u64],
-    rules: usize,
-    background: &[u64],
-    premise: u64,
-    conclusion: u64,
-) -> usize
-    requires { count * 2 ≤ length rows.now }
-    ensures { result ≡ lowest (contradicts (with_rule (shared background) (shared list) rules premise conclusion))
-        (objects_of count rows.now) }
-{
-    let mut i = 0;
-    while i < count {
-        if contradiction(
-            list,
-            rules,
-            background,
-            premise,
-            conclusion,
-            rows[i * 2],
-            rows[i * 2 + 1],
-        ) {
-            return i;
-        }
-        i += 1;
-    }
-    count
-}
-
 // The first of count rows that contradicts the implications in force with one more; count where none does.
 pub fn first_contradiction(
     rows: &[u64],
@@ -67,7 +35,7 @@ pub fn first_contradiction(
     ensures { result ≡ lowest (contradicts (with_rule (shared background) (shared list) rules premise conclusion))
         (objects_of count rows.now) }
 {
-    let whole = closures::smaller(count, rows.len() / 2);
-    let place = contradiction_among(rows, whole, list, rules, background, premise, conclusion);
-    if place < whole { place } else { count }
+    word_pairs::first_that(rows, count, |yes, no| {
+        contradiction(list, rules, background, premise, conclusion, yes, no)
+    })
 }

@@ -2,25 +2,13 @@
 // for 22 the mistake that the file looks like.
 #![tactic(auto)]
 
-ghost use Rattle.std.specs.Prelude.{◌≡◌, ◌-◌};
 ghost use Rattle.text.specs.Page.{Puts};
 ghost use Rattle.expected_phrases.specs.Expected.{phrase, marks_text, mistake_text, expected_text};
 
-// How far a number is above another; 0 where it is not.
-fn above(number: u64, other: u64) -> u64
-    ensures { result ≡ number - other }
-{
-    if number < other {
-        return 0;
-    }
-    number - other
-}
-
-// What was expected where a refusal of this number stands; nothing for another number.
+// What was expected where a refusal of this number stands, the first with a phrase being 21; nothing for another number.
 pub fn put_expected(out: &mut [u8], at: usize, number: u64) -> usize
     ensures { Puts out at result (phrase number) }
 {
-    let line = above(number, 20);
     refusal_words::put_line(
         out,
         at,
@@ -34,7 +22,7 @@ a name of 1 to 80 bytes expected
 marks out of X x . ? expected
 the end of the file expected
 marks out of X x . expected",
-        line,
+        number.saturating_sub(20),
     )
 }
 
@@ -44,9 +32,10 @@ fn put_marks(out: &mut [u8], at: usize, file: &[u8], number: u64) -> usize
 {
     if number == 27 {
         let counted = text::put_number(out, at, table_header::attribute_count(file) as u64);
-        return text::put_byte(out, counted, b' ');
+        text::put_byte(out, counted, b' ')
+    } else {
+        at
     }
-    at
 }
 
 // The mistake that the file looks like, for 22.
@@ -55,9 +44,10 @@ fn put_looks(out: &mut [u8], at: usize, file: &[u8], number: u64) -> usize
 {
     if number == 22 {
         let parted = text::put_bytes(out, at, b"; ");
-        return file_mistakes::put_mistake(out, parted, file_mistakes::looks_like(file));
+        file_mistakes::put_mistake(out, parted, file_mistakes::looks_like(file))
+    } else {
+        at
     }
-    at
 }
 
 // What was expected, with all that is said of it.

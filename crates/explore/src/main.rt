@@ -6,6 +6,11 @@ use std::io::{IsTerminal, Write};
 use table_interview::OUTPUT_BYTES;
 use table_layout::FILE_BYTES;
 
+// How the program is used, said where a person calls it with no file.
+const USAGE: &[u8] = b"usage: explore < TABLE
+Interviews a complete table in Burmeister's layout, in place of an expert.
+";
+
 // The sentence of a refusal number.
 fn say_sentence<W: Write>(writer: &mut W, number: u64) {
     let mut report = [0u8; REPORT_BYTES];
@@ -13,34 +18,24 @@ fn say_sentence<W: Write>(writer: &mut W, number: u64) {
     standard_streams::say(writer, &report, size);
 }
 
-// How the program is used, where a person calls it with no file.
-fn say_usage<W: Write>(writer: &mut W) {
-    let _ = writer.write_all(
-        b"usage: explore < TABLE
-Interviews a complete table in Burmeister's layout, in place of an expert.
-",
-    );
-}
-
 fn main(rt: HostRuntime) {
     let (mut stdin, mut stdout, mut stderr) = (rt.stdin(), rt.stdout(), rt.stderr());
     if stdin.is_terminal() {
-        say_usage(&mut stderr);
+        let _ = stderr.write_all(USAGE);
         return;
     }
     let mut file = [0u8; FILE_BYTES];
-    let input = standard_streams::read_input(&mut stdin, &mut file);
-    if input.failed {
+    let Ok(size) = standard_streams::read_input(&mut stdin, &mut file) else {
         let _ = stderr.write_all(b"standard input cannot be read\n");
         return;
-    }
+    };
     let mut out = [0u8; OUTPUT_BYTES];
-    let told = explore_answers::answer(&file, input.size, &mut out, &mut stdout);
+    let told = explore_answers::answer(&file, size, &mut out, &mut stdout);
     if !told.handed.whole {
         let _ = stderr.write_all(b"standard output cannot be written\n");
     }
     let mut report = [0u8; REPORT_BYTES];
-    let explained = explore_answers::explain(&file, input.size, &mut report);
+    let explained = explore_answers::explain(&file[..size], &mut report);
     standard_streams::say(&mut stderr, &report, explained);
     if explained != 0 {
         return;

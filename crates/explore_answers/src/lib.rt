@@ -1,7 +1,7 @@
 // What the program explore answers to the bytes that it has read (01: the program): its output, and beside it why a file is refused.
 #![tactic(auto)]
 
-ghost use Rattle.std.specs.Prelude.{◌≡◌, ◌&&◌, ◌-◌, take, get_or, eqb, leb};
+ghost use Rattle.std.specs.Prelude.{◌≡◌, ◌&&◌, ◌-◌, get_or, eqb, leb};
 ghost use Rattle.text.specs.Page.{Puts};
 ghost use Rattle.refusal_reports.specs.Reports.{explanation};
 ghost use Rattle.explore_answers.specs.Answers.{Answers};
@@ -15,6 +15,7 @@ use table_layout::FILE_BYTES;
 
 // The output for the first so many bytes of the buffer, with all places of a session lent. What is handed over to be written, line by
 // line, is what the buffer holds in the end.
+// The size stays beside the buffer: `Answers` (its clause `buffer`) says that the buffer has `FILE_BYTES`.
 pub fn answer<W: Write>(
     file: &[u8; FILE_BYTES],
     size: usize,
@@ -24,17 +25,15 @@ pub fn answer<W: Write>(
     ensures { Answers file size out result }
 {
     let bytes: &[u8] = file;
-    let end = closures::smaller(size, bytes.len());
+    let end = size.min(bytes.len());
     table_interview::hold(&bytes[..end], Session::ROWS, Session::RULES, out, writer)
 }
 
-// Why the file in the first so many bytes of the buffer is refused; nothing where it is a complete table.
-pub fn explain(file: &[u8; FILE_BYTES], size: usize, report: &mut [u8; REPORT_BYTES]) -> usize
-    ensures { Puts report 0 result (explanation (take size file.now)) }
+// Why the file is refused; nothing where it is a complete table.
+pub fn explain(file: &[u8], report: &mut [u8; REPORT_BYTES]) -> usize
+    ensures { Puts report 0 result (explanation file.now) }
 {
-    let bytes: &[u8] = file;
-    let end = closures::smaller(size, bytes.len());
-    refusal_reports::put_explanation(report, 0, &bytes[..end])
+    refusal_reports::put_explanation(report, 0, file)
 }
 
 // The output ends in the line `E 12 0`: an E seven bytes before the end. The E of an END line stands further from it.

@@ -2,6 +2,16 @@
 -- phrase for each (the words are not 01's).
 use Rattle.std.specs.Prelude.{Bool, true, false, ◌&&◌, ◌||◌, List, [], ◌∷◌, ℕ, get_or, eqb}
 use Rattle.refusal_words.specs.Words.{joined, line_number}
+use Rattle.file_mistakes.specs.declared.Mistake.{Mistake}
+use Rattle.file_mistakes.specs.declared.Mistake.TheVariants.{Empty, OrderMark, Wide, Small, Other}
+
+-- a mistake's number
+abbrev pub number_of : Mistake → ℕ
+number_of Empty = 1
+number_of OrderMark = 2
+number_of Wide = 3
+number_of Small = 4
+number_of Other = 5
 
 -- two bytes are these two
 abbrev pub are : ℕ → ℕ → ℕ → ℕ → Bool

@@ -8,10 +8,7 @@ ghost use Rattle.handed_output.specs.Handing.{HandsOver, Tells};
 
 use std::io::Write;
 
-// The most bytes that can be counted.
-const MOST: usize = 18446744073709551615;
-
-// How many bytes were handed over, and whether every write took all of its part.
+// How many bytes were handed over, and whether every write took all of its part. Both are told of each output, so this is no Result.
 #[derive(Clone, Copy)]
 pub struct Handed {
     pub bytes: usize,
@@ -35,26 +32,15 @@ pub fn hand_over<W: Write>(
 ) -> Handed
     ensures { HandsOver (length out.now) from to before result }
 {
-    let counted = before.bytes;
-    let unbroken = before.whole;
-    if to <= from {
-        return before;
-    }
-    if !unbroken {
-        return before;
-    }
-    if out.len() < to {
-        return before;
-    }
-    if MOST - counted < to - from {
+    if to <= from || !before.whole || out.len() < to {
         return before;
     }
     let part = &out[from..to];
+    let Some(bytes) = before.bytes.checked_add(part.len()) else {
+        return before;
+    };
     let whole = writer.write_all(part).is_ok();
-    Handed {
-        bytes: counted + part.len(),
-        whole,
-    }
+    Handed { bytes, whole }
 }
 
 // The refusal line, handed over.

@@ -1,5 +1,5 @@
 -- What holds at the head of each beat: the buffer, with what the interview still writes behind it, is the whole text.
-use Rattle.std.specs.Prelude.{◌≡◌, refl, true, false, List, ◌++◌, length, eqb}
+use Rattle.std.specs.Prelude.{◌≡◌, refl, Some, None, List, ◌++◌, length, eqb}
 use Rattle.std.proofs.Common.{sym, ap, ◌∙◌, arith, ltb-false}
 use Prim.Native.Nat.{ℕ, suc, ◌+◌, ◌*◌, ◌/◌, ◌^◌, ◌≤◌, ◌<◌}
 use Rattle.implication.proofs.Pairs.Laws.{length_pairs}
@@ -68,9 +68,9 @@ module _ (objects : ℕ) (table : List ℕ) (i : Interview) (rows list : List �
 pub record Turned (table : List Object) (whole start : List ℕ) (i : Interview) (rows list out : List ℕ) (at : ℕ)
     (r : Beaten) (rows' list' out' : List ℕ) : Type 0 where
   pub within : (at ≤ r.at) × (r.at ≤ length out')
-  pub all : r.last ≡ true → page out' r.at ≡ text (page start 0) whole
-  pub less : r.last ≡ false → measure (holding r.interview rows' list') < measure (holding i rows list)
-  pub on : r.last ≡ false → Running table whole start r.interview rows' list' out' r.at
+  pub all : r.next ≡ None → page out' r.at ≡ text (page start 0) whole
+  pub less : (j : Interview) → r.next ≡ Some j → measure (holding j rows' list') < measure (holding i rows list)
+  pub on : (j : Interview) → r.next ≡ Some j → Running table whole start j rows' list' out' r.at
 
 module _ (table : List Object) (whole start : List ℕ) (i : Interview) (rows list out : List ℕ) (at : ℕ)
     (h : Running table whole start i rows list out at) (r : Beaten) (rows' list' out' : List ℕ)
@@ -86,27 +86,27 @@ module _ (table : List Object) (whole start : List ℕ) (i : Interview) (rows li
       let l : length out' ≡ length out = ap (λ (q : Page). length q.bytes) b.line ∙ text-length p (line_written core) in
       (omega (arith, w.0, e), omega (arith, w.1, e, l))
 
-  is_last : r.last ≡ true → core ≡ last (line_written core)
-  is_last e = sym b.state ∙ ap (λ x. going x (line_written core) (holding r.interview rows' list') r.interview.changes) e
+  is_last : r.next ≡ None → core ≡ last (line_written core)
+  is_last e = sym b.state ∙ ap (λ x. going x (line_written core) rows' list') e
 
-  is-more : r.last ≡ false → core ≡ more (line_written core) (holding r.interview rows' list') r.interview.changes
-  is-more e = sym b.state ∙ ap (λ x. going x (line_written core) (holding r.interview rows' list') r.interview.changes) e
+  is-more : (j : Interview) → r.next ≡ Some j → core ≡ more (line_written core) (holding j rows' list') j.changes
+  is-more j e = sym b.state ∙ ap (λ x. going x (line_written core) rows' list') e
 
-  running-last : r.last ≡ true → page out' r.at ≡ text (page start 0) whole
+  running-last : r.next ≡ None → page out' r.at ≡ text (page start 0) whole
   running-last e =
       b.line
       ∙ sym (ap (λ l. text (page out at) l) (remaining-last table (holding i rows list) i.changes h.along (line_written core) (is_last e))) ∙ sym h.told
 
-  running-less : r.last ≡ false → measure (holding r.interview rows' list') < measure (holding i rows list)
-  running-less e = falls table (holding i rows list) i.changes h.along (line_written core) _ r.interview.changes (is-more e)
+  running-less : (j : Interview) → r.next ≡ Some j → measure (holding j rows' list') < measure (holding i rows list)
+  running-less j e = falls table (holding i rows list) i.changes h.along (line_written core) _ j.changes (is-more j e)
 
-  running-on : r.last ≡ false → Running table whole start r.interview rows' list' out' r.at
-  running-on e = record {
-    along = core-along table (holding i rows list) i.changes h.along (line_written core) _ _ (is-more e);
+  running-on : (j : Interview) → r.next ≡ Some j → Running table whole start j rows' list' out' r.at
+  running-on j e = record {
+    along = core-along table (holding i rows list) i.changes h.along (line_written core) _ _ (is-more j e);
     told = h.told
-        ∙ ap (λ l. text (page out at) l) (remaining-more table (holding i rows list) i.changes h.along (line_written core) _ _ (is-more e))
+        ∙ ap (λ l. text (page out at) l) (remaining-more table (holding i rows list) i.changes h.along (line_written core) _ _ (is-more j e))
         ∙ text-append (page out at) (line_written core) _
-        ∙ ap (λ p. text p (remaining table (holding r.interview rows' list') r.interview.changes)) (sym b.line);
+        ∙ ap (λ p. text p (remaining table (holding j rows' list') j.changes)) (sym b.line);
     within = written-within.1;
   }
 

@@ -36,9 +36,8 @@ pub fn advance(
     let current = interview.current;
     if current == set_words::full_set(n) {
         return Beaten {
-            interview,
+            next: None,
             at: finish(rows, list, interview, out, at),
-            last: true,
         };
     }
     let reach = written_reach::reach_of(n, rows, interview.rows, current);
@@ -46,15 +45,13 @@ pub fn advance(
         let conclusion = set_words::difference(reach, current);
         return table_replies::reply(table, objects, rows, list, interview, conclusion, out, at);
     }
+    let next = Interview {
+        current: closed_sets::next_of(&table[..0], list, interview.rules, n, current),
+        changes: interview_replies::count_change(interview.changes),
+        ..interview
+    };
     Beaten {
-        interview: Interview {
-            n,
-            rows: interview.rows,
-            rules: interview.rules,
-            current: closed_sets::next_of(&table[..0], list, interview.rules, n, current),
-            changes: interview_replies::count_change(interview.changes),
-        },
+        next: Some(next),
         at,
-        last: false,
     }
 }

@@ -23,27 +23,21 @@ pub fn say_no(
         (mutable rows) (shared list) out at result }
 {
     let used = interview.rows;
-    let n = interview.n;
-    let premise = interview.current;
-    let end = output_lines::put_no(out, at, n, premise, conclusion, number);
+    let end = output_lines::put_no(out, at, interview.n, interview.current, conclusion, number);
     if rows.len() / 2 <= used {
         return Beaten {
-            interview,
+            next: None,
             at: closing_lines::put_refusal(out, end, 12, 0),
-            last: true,
         };
     }
     rows[used * 2] = yes;
     rows[used * 2 + 1] = no;
+    let next = Interview {
+        rows: used + 1,
+        ..interview
+    };
     Beaten {
-        interview: Interview {
-            n,
-            rows: used + 1,
-            rules: interview.rules,
-            current: premise,
-            changes: interview.changes,
-        },
+        next: Some(next),
         at: end,
-        last: false,
     }
 }

@@ -1,6 +1,6 @@
 -- How the record of an interview and the lent words hold a state of the plain machine, and what a beat of the code leaves, in the
 -- terms of the definition (01, "The program").
-use Rattle.std.specs.Prelude.{◌≡◌, Bool, true, false, List, [], ℕ}
+use Rattle.std.specs.Prelude.{◌≡◌, Option, Some, None, List, [], ℕ}
 use Rattle.implication.specs.Closure.{implication}
 use Rattle.context.specs.Objects.{Object}
 use Rattle.machine.specs.Checks.{State}
@@ -28,13 +28,13 @@ abbrev pub line_written : Beat → List ℕ
 line_written (more line s changes) = line
 line_written (last line) = line
 
--- a beat that writes this line and goes on, or is the last
-abbrev pub going : Bool → List ℕ → State → ℕ → Beat
-going true line s changes = last line
-going false line s changes = more line s changes
+-- a beat that writes this line and goes on with an interview, or is the last
+abbrev pub going : Option Interview → List ℕ → List ℕ → List ℕ → Beat
+going None line rows list = last line
+going (Some i) line rows list = more line (holding i rows list) i.changes
 
 abbrev pub beat_of : Beaten → List ℕ → List ℕ → List ℕ → Beat
-beat_of b line rows list = going b.last line (holding b.interview rows list) b.interview.changes
+beat_of b line rows list = going b.next line rows list
 
 -- the record and the words hold what this beat goes on with, and its line is written
 pub record Leaves (b : Beat) (r : Beaten) (rows list : List ℕ) (before after : Page) : Type 0 where

@@ -14,20 +14,16 @@ pub struct Interview {
     pub changes: u64,
 }
 
-// What one beat leaves: the interview, the offset behind what it wrote, and whether it is the last.
+// What one beat leaves: the interview that goes on, or none where it is the last, and the offset behind what it wrote.
 #[derive(Clone, Copy)]
 pub struct Beaten {
-    pub interview: Interview,
+    pub next: Option<Interview>,
     pub at: usize,
-    pub last: bool,
 }
 
 // One change more.
 pub fn count_change(changes: u64) -> u64
     ensures { result ≡ counted changes }
 {
-    if changes < 18446744073709551615 {
-        return changes + 1;
-    }
-    changes
+    changes.saturating_add(1)
 }

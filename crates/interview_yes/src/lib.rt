@@ -26,22 +26,20 @@ pub fn say_yes(
     let end = output_lines::put_yes(out, at, n, premise, conclusion);
     if list.len() / 2 <= rules {
         return Beaten {
-            interview,
+            next: None,
             at: closing_lines::put_refusal(out, end, 12, 0),
-            last: true,
         };
     }
     list[rules * 2] = premise;
     list[rules * 2 + 1] = conclusion;
+    let next = Interview {
+        rules: rules + 1,
+        current: closed_sets::next_of(&rows[..0], list, rules + 1, n, premise),
+        changes: interview_replies::count_change(interview.changes),
+        ..interview
+    };
     Beaten {
-        interview: Interview {
-            n,
-            rows: interview.rows,
-            rules: rules + 1,
-            current: closed_sets::next_of(&rows[..0], list, rules + 1, n, premise),
-            changes: interview_replies::count_change(interview.changes),
-        },
+        next: Some(next),
         at: end,
-        last: false,
     }
 }

@@ -12,69 +12,57 @@ ghost use Rattle.session_queries.specs.Answers.{following_answer, refuting_answe
 ghost use Rattle.session_replies.specs.Answers.{reply_answer};
 ghost use Rattle.session_test.specs.Answers.{testing_answer};
 
+use session::{Refusal, Session};
+use session_steps::Step;
+
 // Finished at M; the standing question; or a move to the next closed set.
 pub fn step(
-    session: &mut session::Session,
+    session: &mut Session,
     rows: &[u64],
     list: &[u64],
     background: &[u64],
-) -> session_steps::Step
+) -> Result<Step, Refusal>
     ensures { PerformsOn stepping (mutable session) (shared rows) (shared list) (shared background) (step_answer result) }
 {
-    let held = *session;
-    let turn = session_steps::make_step(held, rows, list, background);
-    if turn.changed {
-        *session = turn.session;
-    }
-    turn.answer
+    session_steps::make_step(*session, rows, list, background).store(session)
 }
 
 // 01's yes: the standing question becomes the next rule of the list, and the current set the next closed set.
 pub fn accept(
-    session: &mut session::Session,
+    session: &mut Session,
     rows: &[u64],
     list: &mut [u64],
     background: &[u64],
-) -> session_replies::Reply
+) -> Result<(), Refusal>
     ensures { PerformsOn accepting (mutable session) (shared rows) (mutable list) (shared background) (reply_answer result) }
 {
-    let held = *session;
-    let turn = session_yes::accept(held, rows, list, background);
-    if turn.changed {
-        *session = turn.session;
-    }
-    turn.answer
+    session_yes::accept(*session, rows, list, background).store(session)
 }
 
 // 01's no: the offered row, which refutes the standing question, becomes the next row.
 pub fn reject(
-    session: &mut session::Session,
+    session: &mut Session,
     rows: &mut [u64],
     list: &[u64],
     background: &[u64],
     yes: u64,
     no: u64,
-) -> session_replies::Reply
+) -> Result<(), Refusal>
     ensures { PerformsOn (rejecting (object yes no)) (mutable session) (mutable rows) (shared list) (shared background)
         (reply_answer result) }
 {
-    let held = *session;
-    let turn = session_no::reject(held, rows, list, background, yes, no);
-    if turn.changed {
-        *session = turn.session;
-    }
-    turn.answer
+    session_no::reject(*session, rows, list, background, yes, no).store(session)
 }
 
 // Whether an implication follows from those in force.
 pub fn follows(
-    session: &session::Session,
+    session: &Session,
     rows: &[u64],
     list: &[u64],
     background: &[u64],
     premise: u64,
     conclusion: u64,
-) -> session_queries::Following
+) -> Result<bool, Refusal>
     ensures { PerformsOn (follow (implication premise conclusion)) (shared session) (shared rows) (shared list) (shared background)
         (following_answer result) }
 {
@@ -83,13 +71,13 @@ pub fn follows(
 
 // Whether a row refutes an implication, with the first such row.
 pub fn refuted(
-    session: &session::Session,
+    session: &Session,
     rows: &[u64],
     list: &[u64],
     background: &[u64],
     premise: u64,
     conclusion: u64,
-) -> session_queries::Refuting
+) -> Result<Option<usize>, Refusal>
     ensures { PerformsOn (refute (implication premise conclusion)) (shared session) (shared rows) (shared list) (shared background)
         (refuting_answer result) }
 {
@@ -98,13 +86,13 @@ pub fn refuted(
 
 // 02's test: whether the offered row refutes the standing question.
 pub fn test_row(
-    session: &session::Session,
+    session: &Session,
     rows: &[u64],
     list: &[u64],
     background: &[u64],
     yes: u64,
     no: u64,
-) -> session_test::Testing
+) -> Result<(), Refusal>
     ensures { PerformsOn (test (object yes no)) (shared session) (shared rows) (shared list) (shared background) (testing_answer result) }
 {
     session_test::test_row(*session, rows, list, background, yes, no)
@@ -112,33 +100,28 @@ pub fn test_row(
 
 // 02's filing: the offered row becomes the next row. No question has to stand.
 pub fn file_row(
-    session: &mut session::Session,
+    session: &mut Session,
     rows: &mut [u64],
     list: &[u64],
     background: &[u64],
     yes: u64,
     no: u64,
-) -> session_replies::Reply
+) -> Result<(), Refusal>
     ensures { PerformsOn (file (object yes no)) (mutable session) (mutable rows) (shared list) (shared background) (reply_answer result) }
 {
-    let held = *session;
-    let turn = session_filing::file_row(held, rows, list, background, yes, no);
-    if turn.changed {
-        *session = turn.session;
-    }
-    turn.answer
+    session_filing::file_row(*session, rows, list, background, yes, no).store(session)
 }
 
 // 02's filling: the marks of the offered row are added to the row of this number. The record stays as it is.
 pub fn fill_row(
-    session: &mut session::Session,
+    session: &mut Session,
     rows: &mut [u64],
     list: &[u64],
     background: &[u64],
     row: usize,
     yes: u64,
     no: u64,
-) -> session_replies::Reply
+) -> Result<(), Refusal>
     ensures { PerformsOn (fill row (object yes no)) (mutable session) (mutable rows) (shared list) (shared background)
         (reply_answer result) }
 {

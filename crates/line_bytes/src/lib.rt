@@ -11,12 +11,5 @@ use table_bytes::ByteKind;
 pub fn all_pass(bytes: &[u8], kind: ByteKind) -> bool
     ensures { result ≡ everywhere (passes kind) bytes.now }
 {
-    let mut i = 0;
-    while i < bytes.len() {
-        if !table_bytes::passes_as(kind, bytes[i]) {
-            return false;
-        }
-        i += 1;
-    }
-    true
+    bytes.iter().all(|b| table_bytes::passes_as(kind, *b))
 }

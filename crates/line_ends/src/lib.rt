@@ -35,8 +35,7 @@ fn end_at(file: &[u8], i: usize) -> usize
 pub fn line_at(file: &[u8], at: usize) -> Line
     ensures { result ≡ line_of (drop at file.now) }
 {
-    let mut i = at;
-    while i < file.len() {
+    for i in at..file.len() {
         let end = end_at(file, i);
         if end != 0 {
             return Line {
@@ -44,9 +43,8 @@ pub fn line_at(file: &[u8], at: usize) -> Line
                 step: i - at + end,
             };
         }
-        i += 1;
     }
-    let size = i - at;
+    let size = file.len().saturating_sub(at);
     Line { size, step: size }
 }
 

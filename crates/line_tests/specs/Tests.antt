@@ -1,6 +1,6 @@
 -- The tests of one line of a table file (01, "The table file"): the letter, a count in a range, a name, marks, and the number of a line
 -- that does not pass.
-use Rattle.std.specs.Prelude.{Bool, true, false, ◌&&◌, List, ℕ, length, get_or, eqb, ltb, leb}
+use Rattle.std.specs.Prelude.{Bool, true, false, ◌&&◌, List, ℕ, zero, suc, length, get_or, eqb, ltb, leb, Result, Ok, Err}
 use Rattle.table_bytes.specs.Bytes.{is_mark}
 use Rattle.line_bytes.specs.Everywhere.{everywhere}
 use Rattle.table_counts.specs.Counts.{is_count, count_of}
@@ -18,6 +18,11 @@ refuse_unless false k = k
 abbrev pub count_fault : ℕ → ℕ → List ℕ → ℕ
 count_fault least most bs =
     elim (is_count bs) [ true ↦ refuse_unless (leb least (count_of bs) && leb (count_of bs) most) 24 | false ↦ 23 ]
+
+-- the outcome of a test that refuses a line with this number; 0 where the line passes
+abbrev pub outcome : ℕ → Result (Unit {0}) ℕ
+outcome zero = Ok tt
+outcome (suc k) = Err (suc k)
 
 abbrev pub is_letter : List ℕ → Bool
 is_letter bs = eqb (length bs) 1 && eqb (get_or bs 0 0) 66

@@ -1,44 +1,33 @@
 // The tests of one line of a table file: the letter, a count, a name, marks, and the number of a line that does not pass.
 #![tactic(auto)]
 
-ghost use Rattle.std.specs.Prelude.{◌≡◌};
-ghost use Rattle.line_tests.specs.Tests.{refuse_unless, count_fault, is_letter, is_name, is_marks};
+ghost use Rattle.std.specs.Prelude.{◌≡◌, Ok, Err, if◌then◌else◌};
+ghost use Rattle.line_tests.specs.Tests.{count_fault, outcome, is_letter, is_name, is_marks};
 
 // The most bytes of a title or a name.
 pub const NAME_BYTES: usize = 80;
 
-// The number of a line that is not fine; 0 of one that is.
-pub fn refuse_unless(fine: bool, number: u64) -> u64
-    ensures { result ≡ refuse_unless fine number }
+// A line that is not fine is refused with the number.
+pub fn refuse_unless(fine: bool, number: u64) -> Result<(), u64>
+    ensures { result ≡ (if fine then Ok tt else Err number) }
 {
-    if fine {
-        return 0;
-    }
-    number
+    if fine { Ok(()) } else { Err(number) }
 }
 
-// 23 for a line that is no count, 24 for a count that is not from least to most.
-pub fn count_fault(line: &[u8], least: usize, most: usize) -> u64
-    ensures { result ≡ count_fault least most line.now }
+// A line that is no count is refused with 23, and a count that is not from least to most with 24.
+pub fn count_fault(line: &[u8], least: usize, most: usize) -> Result<(), u64>
+    ensures { result ≡ outcome (count_fault least most line.now) }
 {
-    if !table_counts::is_count(line) {
-        return 23;
-    }
+    refuse_unless(table_counts::is_count(line), 23)?;
     let count = table_counts::count_of(line);
-    if count < least {
-        return 24;
-    }
-    refuse_unless(count <= most, 24)
+    refuse_unless(least <= count && count <= most, 24)
 }
 
 // The line is the letter B.
 pub fn is_letter(line: &[u8]) -> bool
     ensures { result ≡ is_letter line.now }
 {
-    if line.len() != 1 {
-        return false;
-    }
-    line[0] == b'B'
+    line.len() == 1 && line[0] == b'B'
 }
 
 // The line is a name: not empty, and not too long.

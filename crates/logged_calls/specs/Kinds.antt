@@ -9,6 +9,19 @@ use Rattle.machine.specs.Calls.{Words, MadeFrom}
 use Rattle.session.specs.declared.Session.{Session}
 use Rattle.answer_words.specs.Codes.{coded, code_of}
 use Rattle.answer_words.specs.declared.Answer.{Answer as Coded}
+use Rattle.logged_calls.specs.declared.CallKind.{CallKind}
+use Rattle.logged_calls.specs.declared.CallKind.TheVariants.{Step, Yes, No, Follows, Refuted, Test, File, Fill}
+
+-- the number of a kind in a log
+abbrev pub number_of : CallKind → ℕ
+number_of Step = 0
+number_of Yes = 1
+number_of No = 2
+number_of Follows = 3
+number_of Refuted = 4
+number_of Test = 5
+number_of File = 6
+number_of Fill = 7
 
 -- the kinds: 0 step, 1 yes, 2 no, 3 follows, 4 refuted, 5 test, 6 filing, 7 filling (row number, yes marks, no marks); an argument that a kind does not use may be
 -- any word

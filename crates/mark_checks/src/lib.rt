@@ -13,14 +13,7 @@ fn first_double(rows: &[u64], count: usize, from: usize) -> usize
     requires { (count * 2 ≤ length rows.now) × (from ≤ count) }
     ensures { result ≡ from + lowest marked_twice (objects_of (count - from) (drop (from * 2) rows.now)) }
 {
-    let mut i = from;
-    while i < count {
-        if rows[i * 2] & rows[i * 2 + 1] != 0 {
-            return i;
-        }
-        i += 1;
-    }
-    count
+    from + word_pairs::first_that(&rows[from * 2..], count - from, |yes, no| yes & no != 0)
 }
 
 // Checks 5 and 6. A row that marks an attribute both ways contradicts too, so the rows before the first that contradicts need
@@ -30,16 +23,16 @@ pub fn check_marks(
     rows: &[u64],
     list: &[u64],
     background: &[u64],
-) -> size_checks::Verdict
+) -> Result<(), session::Refusal>
     ensures { Marks (given session (shared rows) (shared list) (shared background)) result }
 {
     let used = session.rows;
     let rules = session.rules;
     let row = contradictions::first_contradiction(rows, used, list, rules, background, 0, 0);
     if used <= row {
-        return size_checks::Verdict::Passed;
+        return Ok(());
     }
-    let whole = closures::smaller(used, rows.len() / 2);
+    let whole = used.min(rows.len() / 2);
     let double = first_double(rows, whole, row);
     if double < whole {
         return size_checks::refused(5, double);

@@ -10,13 +10,11 @@ ghost use Rattle.marks_text.specs.Marks.{mark_of, marks_text};
 fn mark_of(yes: u64, no: u64) -> u8
     ensures { result ≡ mark_of yes no }
 {
-    if yes != 0 {
-        return b'X';
+    match (yes, no) {
+        (0, 0) => b'?',
+        (0, _) => b'.',
+        _ => b'X',
     }
-    if no != 0 {
-        return b'.';
-    }
-    b'?'
 }
 
 // The marks of the first n attributes of a row, a byte for each.
@@ -26,12 +24,10 @@ pub fn put_marks(out: &mut [u8], at: usize, n: usize, yes: u64, no: u64) -> usiz
     let mut to = at;
     let mut left_yes = yes;
     let mut left_no = no;
-    let mut i = 0;
-    while i < n {
+    for _ in 0..n {
         to = text::put_byte(out, to, mark_of(left_yes % 2, left_no % 2));
         left_yes /= 2;
         left_no /= 2;
-        i += 1;
     }
     to
 }

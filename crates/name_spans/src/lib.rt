@@ -20,23 +20,19 @@ fn skip(file: &[u8], start: usize, count: usize) -> usize
     ensures { result ≡ skipped count file.now start }
 {
     let mut at = start;
-    let mut i = 0;
-    while i < count {
+    for _ in 0..count {
         at = line_ends::next_at(file, at);
-        i += 1;
     }
     at
 }
 
 // Where in the file the name with this number stands, of count names that begin at start; nowhere, with no bytes, for a number past
 // the last and for a layout that is not what reading the file finds.
+// No Option: `span_from` of specs/ and the answers in C speak of the offset 0 with no bytes.
 fn span_of(file: &[u8], layout: Layout, count: usize, start: usize, number: usize) -> Span
     ensures { result ≡ span_from (finds file.now layout) count start number file.now }
 {
-    if !found_layout::is_found(file, layout) {
-        return Span { at: 0, size: 0 };
-    }
-    if count <= number {
+    if !found_layout::is_found(file, layout) || count <= number {
         return Span { at: 0, size: 0 };
     }
     let at = skip(file, start, number);
@@ -54,7 +50,7 @@ pub fn object_span(file: &[u8], layout: Layout, number: usize) -> Span
     span_of(file, layout, layout.objects, layout.object_names, number)
 }
 
-// Where the name of an attribute stands, as for objects.
+// Where the name of an attribute stands, as for objects: document 01 names both.
 pub fn attribute_span(file: &[u8], layout: Layout, number: usize) -> Span
     ensures { result ≡ attribute_span file.now layout number }
 {

@@ -1,7 +1,7 @@
 // Files that the arguments of a program name, each read to a buffer.
 #![tactic(auto)]
 
-ghost use Rattle.std.specs.Prelude.{◌≡◌, ◌≤◌, false, length};
+ghost use Rattle.std.specs.Prelude.{◌≤◌, length, IfSome, MatchResult};
 ghost use Rattle.named_files.specs.Counts.{Counts};
 
 use std::env::{Env, FillError};
@@ -12,11 +12,10 @@ use std::rt::Files;
 // The bytes of a buffer that holds every path.
 pub const PATH_BYTES: usize = 4096;
 
-// So many bytes of a file stand at the start of the buffer; none where it could not be opened.
+// A read failed, with so many bytes of the file at the start of the buffer.
 #[derive(Clone, Copy)]
-pub struct NamedFile {
+pub struct ReadFailed {
     pub size: usize,
-    pub opened: bool,
 }
 
 // How many arguments the program was started with, its own name among them.
@@ -40,19 +39,19 @@ pub fn put_argument<R: Env>(rt: &R, number: usize, path: &mut [u8]) -> usize
     }
 }
 
-// Reads until the buffer is full, the file ends or a read fails.
-fn read_full<R: Read>(reader: &mut R, file: &mut [u8]) -> usize
-    ensures { Counts result file.new }
+// Reads until the buffer is full, the file ends or a read fails: how many bytes then stand at the start of the buffer.
+pub fn read_full<R: Read>(reader: &mut R, file: &mut [u8]) -> Result<usize, ReadFailed>
+    ensures { MatchResult result (λ size. Counts size file.new) (λ failed. Counts failed.size file.new) }
 {
     let mut size = 0;
     while size < file.len() {
         match reader.read(&mut file[size..]) {
-            Ok(0) => return size,
+            Ok(0) => return Ok(size),
             Ok(more) => size += more,
-            Err(_) => return size,
+            Err(_) => return Err(ReadFailed { size }),
         }
     }
-    size
+    Ok(size)
 }
 
 // Opens the file of this path for reading. A path that is no text names no file.
@@ -67,13 +66,10 @@ fn open<R: Files>(rt: &R, path: &[u8]) -> std::io::Result<R::File> {
 fn size_of_words(error: &[u8]) -> usize
     ensures { result ≤ length error.now }
 {
-    let mut size = error.len();
-    for i in 1..error.len() {
-        if error[i] == b'(' {
-            size = i - 1;
-        }
+    match error.iter().rposition(|byte| *byte == b'(') {
+        Some(bracket @ 1..) => bracket - 1,
+        _ => error.len(),
     }
-    size
 }
 
 // Writes why a path is not opened, in a line: the path, and the words of the error.
@@ -90,27 +86,23 @@ fn write_why<W: Write>(writer: &mut W, path: &[u8], error: Error) {
     let _ = writer.write_all(b"\n");
 }
 
-// Reads the file of this path until it ends or the buffer is full. Where it cannot be opened, the writer is told why.
+// Reads the file of this path until it ends, the buffer is full or a read fails: how many bytes then stand at the start of the buffer.
+// Where it cannot be opened, there are none, and the writer is told why.
 pub fn read_path<R: Files, W: Write>(
     rt: &R,
     path: &[u8],
     file: &mut [u8],
     writer: &mut W,
-) -> NamedFile
-    ensures read { Counts result.size file.new }
-    ensures unopened { result.opened ≡ false → result.size ≡ 0 }
+) -> Option<usize>
+    ensures { IfSome result (λ size. Counts size file.new) }
 {
     match open(rt, path) {
-        Ok(mut opened) => {
-            let size = read_full(&mut opened, file);
-            NamedFile { size, opened: true }
-        }
+        Ok(mut opened) => match read_full(&mut opened, file) {
+            Ok(size) | Err(ReadFailed { size }) => Some(size),
+        },
         Err(error) => {
             write_why(writer, path, error);
-            NamedFile {
-                size: 0,
-                opened: false,
-            }
+            None
         }
     }
 }
@@ -122,16 +114,12 @@ pub fn read_argument<R: Env + Files, W: Write, E: Write>(
     file: &mut [u8],
     writer: &mut W,
     errors: &mut E,
-) -> NamedFile
-    ensures read { Counts result.size file.new }
-    ensures unopened { result.opened ≡ false → result.size ≡ 0 }
+) -> Option<usize>
+    ensures { IfSome result (λ size. Counts size file.new) }
 {
     let mut path = [0u8; PATH_BYTES];
     let length = put_argument(rt, number, &mut path);
-    let named = read_path(rt, &path[..length], file, errors);
-    let opened = named.opened;
-    if opened {
-        let _ = writer.write_all(&path[..length]);
-    }
-    named
+    let size = read_path(rt, &path[..length], file, errors)?;
+    let _ = writer.write_all(&path[..length]);
+    Some(size)
 }

@@ -7,33 +7,28 @@ use standard_streams::REPORT_BYTES;
 use std::io::{IsTerminal, Write};
 use table_layout::FILE_BYTES;
 
-// How the program is used, where a person calls it with no file.
-fn say_usage<W: Write>(writer: &mut W) {
-    let _ = writer.write_all(
-        b"usage: nearly < TABLE
+// How the program is used, said where a person calls it with no file.
+const USAGE: &[u8] = b"usage: nearly < TABLE
 Lists what more than 80 per cent of the rows with one or two properties have, of a table in Burmeister's layout.
-",
-    );
-}
+";
 
 fn main(rt: HostRuntime) {
     let (mut stdin, mut stdout, mut stderr) = (rt.stdin(), rt.stdout(), rt.stderr());
     if stdin.is_terminal() {
-        say_usage(&mut stderr);
+        let _ = stderr.write_all(USAGE);
         return;
     }
     let mut file = [0u8; FILE_BYTES];
-    let input = standard_streams::read_input(&mut stdin, &mut file);
-    if input.failed {
+    let Ok(size) = standard_streams::read_input(&mut stdin, &mut file) else {
         let _ = stderr.write_all(b"standard input cannot be read\n");
         return;
-    }
+    };
     let mut out = [0u8; OUTPUT_BYTES];
-    let told = nearly_answers::answer(&file, input.size, &mut out, &mut stdout);
+    let told = nearly_answers::answer(&file, size, &mut out, &mut stdout);
     if !told.handed.whole {
         let _ = stderr.write_all(b"standard output cannot be written\n");
     }
     let mut report = [0u8; REPORT_BYTES];
-    let explained = nearly_answers::explain(&file, input.size, &mut report);
+    let explained = nearly_answers::explain(&file[..size], &mut report);
     standard_streams::say(&mut stderr, &report, explained);
 }

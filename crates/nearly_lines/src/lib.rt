@@ -40,9 +40,7 @@ fn put_pairs(
 {
     let single = set_words::raised(0, i);
     let mut to = at;
-    let mut j = n;
-    while i + 1 < j {
-        j -= 1;
+    for j in (i + 1..n).rev() {
         to = put_line(
             out,
             to,
@@ -79,9 +77,7 @@ fn put_each(out: &mut [u8], at: usize, n: usize, used: usize, rows: &[u64], perc
     ensures { Puts out at result (nearly_lines n percent (objects_of used rows.now) (premises n)) }
 {
     let mut to = at;
-    let mut i = n;
-    while i > 0 {
-        i -= 1;
+    for i in (0..n).rev() {
         to = put_with(out, to, n, used, rows, percent, i);
     }
     to

@@ -1,10 +1,9 @@
 -- The whole output of the program `nearly`, from the bytes of standard input to the bytes written (02, request 3/13): for a table file, in
 -- which unknown marks pass, the line of each premise of one or two attributes, at 80 per cent; for a refused file its E line alone.
-use Rattle.std.specs.Prelude.{List, ℕ}
+use Rattle.std.specs.Prelude.{List, ℕ, Result, Ok, Err}
+use Rattle.session.specs.declared.Refusal.{Refusal}
 use Rattle.table_layout.specs.Layout.{input_most, opened_of}
 use Rattle.table_layout.specs.declared.Layout.{Layout}
-use Rattle.table_layout.specs.declared.Opened.{Opened}
-use Rattle.table_layout.specs.declared.Opened.TheVariants.{Found, Refused}
 use Rattle.table_rows.specs.Rows.{rows_from}
 use Rattle.text.specs.Page.{Buffer, Bytes}
 use Rattle.closing_lines.specs.Closing.{refusal_line}
@@ -23,9 +22,9 @@ abbrev pub table_lines : List ℕ → Layout → List ℕ
 table_lines file l = nearly_lines l.attributes percentage (rows_from l.objects file l.marks) (premises l.attributes)
 
 -- what is written, by what the file opens as
-abbrev pub written : List ℕ → Opened → List ℕ
-written file (Found l) = table_lines file l
-written file (Refused r) = refusal_line r
+abbrev pub written : List ℕ → Result Layout Refusal → List ℕ
+written file (Ok l) = table_lines file l
+written file (Err r) = refusal_line r
 
 -- the program's output
 unfoldable pub nearly_output : List ℕ → List ℕ

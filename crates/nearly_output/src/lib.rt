@@ -12,7 +12,6 @@ ghost use Rattle.nearly_output.specs.Output.{percentage, nearly_output};
 use handed_output::{Handed, Told};
 use session::Session;
 use std::io::Write;
-use table_layout::Opened;
 
 // The bytes of a buffer that holds every output whole.
 pub const OUTPUT_BYTES: usize = 274560;
@@ -46,10 +45,9 @@ pub fn list_file<W: Write>(file: &[u8], out: &mut [u8; OUTPUT_BYTES], writer: &m
         bytes: 0,
         whole: true,
     };
-    let opened = table_marks::read_marks(file, &mut rows);
-    match opened {
-        Opened::Refused(refusal) => handed_output::write_refusal(refusal, out, writer, before),
-        Opened::Found(layout) => write_lines(
+    match table_marks::read_marks(file, &mut rows) {
+        Err(refusal) => handed_output::write_refusal(refusal, out, writer, before),
+        Ok(layout) => write_lines(
             &rows,
             layout.objects,
             layout.attributes,

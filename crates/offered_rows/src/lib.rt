@@ -1,6 +1,6 @@
 // The checks of an offered row, in document 01's order: 9 and 10 of a test to a question that stands, 9 and 11 of a filing; 9, 33 and 11 of
 // marks offered for a row.
-#![tactic(auto)]
+#![tactic(auto, unfolding(machine::specs::Checks::first_failing))]
 
 ghost use Rattle.context.specs.Parts.{shared};
 ghost use Rattle.implication.specs.Closure.{implication};
@@ -19,7 +19,7 @@ pub fn check_tested_row(
     no: u64,
     premise: u64,
     conclusion: u64,
-) -> size_checks::Verdict
+) -> Result<(), session::Refusal>
     ensures { RowTested n (lent_force (shared background) (shared list) rules) (implication premise conclusion) (object yes no) result }
 {
     if row_tests::bad_row(n, yes, no) {
@@ -28,7 +28,7 @@ pub fn check_tested_row(
     if !refuting_rows::refuted_by(background, list, rules, yes, no, premise, conclusion) {
         return size_checks::refused(10, 0);
     }
-    size_checks::Verdict::Passed
+    Ok(())
 }
 
 // Checks 9 and 11 of a row offered to be filed.
@@ -39,7 +39,7 @@ pub fn check_filed_row(
     rules: usize,
     yes: u64,
     no: u64,
-) -> size_checks::Verdict
+) -> Result<(), session::Refusal>
     ensures { RowFits n (lent_force (shared background) (shared list) rules) (object yes no) result }
 {
     if row_tests::bad_row(n, yes, no) {
@@ -48,7 +48,7 @@ pub fn check_filed_row(
     if row_tests::row_contradicts(background, list, rules, yes, no) {
         return size_checks::refused(11, 0);
     }
-    size_checks::Verdict::Passed
+    Ok(())
 }
 
 // Checks 9, 33 and 11 of marks offered for a row with known marks.
@@ -61,7 +61,7 @@ pub fn check_added_marks(
     known_no: u64,
     yes: u64,
     no: u64,
-) -> size_checks::Verdict
+) -> Result<(), session::Refusal>
     ensures { MarksFit n (lent_force (shared background) (shared list) rules) (object known_yes known_no) (object yes no) result }
 {
     if row_tests::bad_row(n, yes, no) {
@@ -73,5 +73,5 @@ pub fn check_added_marks(
     if row_tests::row_contradicts(background, list, rules, known_yes | yes, known_no | no) {
         return size_checks::refused(11, 0);
     }
-    size_checks::Verdict::Passed
+    Ok(())
 }

@@ -41,7 +41,7 @@ pub fn put_no(out: &mut [u8], at: usize, n: usize, premise: u64, conclusion: u64
     closing_lines::put_number_then(out, refuted, row, b'\n')
 }
 
-// The line of one rule of the list.
+// The line of one rule of the list: as of a question, `put_rule` with other words.
 fn put_listed(out: &mut [u8], at: usize, n: usize, premise: u64, conclusion: u64) -> usize
     ensures { Puts out at result (list_lines n (implication premise conclusion ∷ [])) }
 {
@@ -52,12 +52,10 @@ fn put_listed(out: &mut [u8], at: usize, n: usize, premise: u64, conclusion: u64
 pub fn put_list(out: &mut [u8], at: usize, n: usize, list: &[u64], count: usize) -> usize
     ensures { Puts out at result (list_lines n (whole_rules count list.now)) }
 {
-    let whole = closures::smaller(count, list.len() / 2);
+    let (rules, _) = list.as_chunks::<2>();
     let mut to = at;
-    let mut i = 0;
-    while i < whole {
-        to = put_listed(out, to, n, list[i * 2], list[i * 2 + 1]);
-        i += 1;
+    for &[premise, conclusion] in rules.iter().take(count) {
+        to = put_listed(out, to, n, premise, conclusion);
     }
     to
 }

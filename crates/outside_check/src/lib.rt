@@ -14,10 +14,7 @@ ghost use Rattle.outside_check.specs.Outside.{Outside};
 pub fn strange_pair(a: u64, b: u64, m: u64) -> bool
     ensures { result ≡ strange m a b }
 {
-    if a & m != a {
-        return true;
-    }
-    b & m != b
+    a & m != a || b & m != b
 }
 
 // One of the first count pairs of words has an attribute outside m.
@@ -25,14 +22,7 @@ fn strange_among(words: &[u64], count: usize, m: u64) -> bool
     requires { count * 2 ≤ length words.now }
     ensures { result ≡ anywhere (λ (b : Bool). b) (pairs (strange m) count words.now) }
 {
-    let mut i = 0;
-    while i < count {
-        if strange_pair(words[i * 2], words[i * 2 + 1], m) {
-            return true;
-        }
-        i += 1;
-    }
-    false
+    word_pairs::first_that(words, count, |a, b| strange_pair(a, b, m)) < count
 }
 
 // Check 4: a row in use, a rule in force, the rule asked about or the current set has an attribute outside M.
@@ -46,21 +36,13 @@ pub fn check_outside(
 ) -> bool
     ensures { Outside (given session (shared rows) (shared list) (shared background)) (implication premise conclusion) result }
 {
-    let used = closures::smaller(session.rows, rows.len() / 2);
-    let rules = closures::smaller(session.rules, list.len() / 2);
+    let used = session.rows.min(rows.len() / 2);
+    let rules = session.rules.min(list.len() / 2);
     let current = session.current;
     let m = set_words::full_set(session.n);
-    if strange_among(rows, used, m) {
-        return true;
-    }
-    if strange_among(background, background.len() / 2, m) {
-        return true;
-    }
-    if strange_among(list, rules, m) {
-        return true;
-    }
-    if strange_pair(premise, conclusion, m) {
-        return true;
-    }
-    current & m != current
+    strange_among(rows, used, m)
+        || strange_among(background, background.len() / 2, m)
+        || strange_among(list, rules, m)
+        || strange_pair(premise, conclusion, m)
+        || current & m != current
 }

@@ -6,6 +6,9 @@ ghost use Rattle.refusal_reports.specs.Reports.{line_text, sentence_line};
 ghost use Rattle.refusal_reports.specs.Reports.{report, explanation, explanation_of};
 ghost use Rattle.table_layout.specs.Layout.{opened_of};
 
+use session::Refusal;
+use table_layout::Layout;
+
 // `line N: `
 fn put_line_number(out: &mut [u8], at: usize, line: u64) -> usize
     ensures { Puts out at result (line_text line) }
@@ -34,18 +37,12 @@ pub fn put_report(out: &mut [u8], at: usize, file: &[u8], number: u64, place: us
 }
 
 // Why a file is refused, by what it opened as; nothing where it is not.
-fn put_why(out: &mut [u8], at: usize, file: &[u8], opened: table_layout::Opened) -> usize
+fn put_why(out: &mut [u8], at: usize, file: &[u8], opened: Result<Layout, Refusal>) -> usize
     ensures { Puts out at result (explanation_of file.now opened) }
 {
     match opened {
-        table_layout::Opened::Found(_) => at,
-        table_layout::Opened::Refused(refusal) => put_report(
-            out,
-            at,
-            file,
-            refusal.number,
-            refusal.place,
-        ),
+        Ok(_) => at,
+        Err(refusal) => put_report(out, at, file, refusal.number, refusal.place),
     }
 }
 
@@ -53,14 +50,12 @@ fn put_why(out: &mut [u8], at: usize, file: &[u8], opened: table_layout::Opened)
 pub fn put_explanation(out: &mut [u8], at: usize, file: &[u8]) -> usize
     ensures { Puts out at result (explanation file.now) }
 {
-    let opened = complete_tables::open_complete(file);
-    put_why(out, at, file, opened)
+    put_why(out, at, file, complete_tables::open_complete(file))
 }
 
 // Why a file is refused where unknown marks pass.
 pub fn put_opened(out: &mut [u8], at: usize, file: &[u8]) -> usize
     ensures { Puts out at result (explanation_of file.now (opened_of file.now)) }
 {
-    let opened = table_layout::open(file);
-    put_why(out, at, file, opened)
+    put_why(out, at, file, table_layout::open(file))
 }

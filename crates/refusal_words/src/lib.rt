@@ -9,10 +9,7 @@ ghost use Rattle.refusal_words.specs.Words.{ends, shown, left, line_number, sent
 fn line_ends(skip: u64, byte: u8) -> bool
     ensures { result ≡ ends skip byte }
 {
-    if skip == 0 {
-        return byte == b'\n';
-    }
-    false
+    skip == 0 && byte == b'\n'
 }
 
 // Writes a byte of the line that is sought.
@@ -20,22 +17,21 @@ fn put_shown(out: &mut [u8], at: usize, skip: u64, byte: u8) -> usize
     ensures { Puts out at result (shown skip byte) }
 {
     if skip == 0 {
-        return text::put_byte(out, at, byte);
+        text::put_byte(out, at, byte)
+    } else {
+        at
     }
-    at
 }
 
 // How many lines stand before the one that is sought, behind a byte.
 fn lines_left(skip: u64, byte: u8) -> u64
     ensures { result ≡ left skip byte }
 {
-    if byte != b'\n' {
-        return skip;
+    if byte == b'\n' {
+        skip.saturating_sub(1)
+    } else {
+        skip
     }
-    if skip == 0 {
-        return 0;
-    }
-    skip - 1
 }
 
 // The line of a number, the first being 0.
@@ -44,15 +40,12 @@ pub fn put_line(out: &mut [u8], at: usize, lines: &[u8], number: u64) -> usize
 {
     let mut to = at;
     let mut skip = number;
-    let mut i = 0;
-    while i < lines.len() {
-        let byte = lines[i];
+    for &byte in lines {
         if line_ends(skip, byte) {
             return to;
         }
         to = put_shown(out, to, skip, byte);
         skip = lines_left(skip, byte);
-        i += 1;
     }
     to
 }

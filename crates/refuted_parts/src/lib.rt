@@ -44,6 +44,7 @@ fn lacked_among(
 {
     let mut lacked = among & no;
     let mut left = set_words::difference(set_words::difference(among, no), has);
+    // no list to go over: a turn takes all that it spares out of what is left
     while left != 0 {
         let attribute = set_words::smallest_of(left);
         let spared = spared_with(background, list, rules, yes, no, attribute);

@@ -3,7 +3,7 @@
 #![tactic(auto)]
 
 ghost use Rattle.context.specs.Parts.{shared};
-ghost use Rattle.std.specs.Prelude.{◌≡◌, ◌*◌, ◌≤◌, length};
+ghost use Rattle.std.specs.Prelude.{◌≡◌};
 ghost use Rattle.implication.specs.Closure.{implication};
 ghost use Rattle.context.specs.Objects.{object, refutes};
 ghost use Rattle.context.specs.Parts.{lent_force, FirstRefuting};
@@ -23,37 +23,6 @@ pub fn refuted_by(
     refuted_parts::refuted_part(background, list, rules, yes, no, premise, conclusion) != 0
 }
 
-// The place of the first of count objects that refutes the implication; count where none does.
-fn refuting_among(
-    rows: &[u64],
-    count: usize,
-    background: &[u64],
-    list: &[u64],
-    rules: usize,
-    premise: u64,
-    conclusion: u64,
-) -> usize
-    requires { count * 2 ≤ length rows.now }
-    ensures { FirstRefuting (shared background) (shared list) rules (shared rows) count (implication premise conclusion) result }
-{
-    let mut place = 0;
-    while place < count {
-        if refuted_by(
-            background,
-            list,
-            rules,
-            rows[place * 2],
-            rows[place * 2 + 1],
-            premise,
-            conclusion,
-        ) {
-            return place;
-        }
-        place += 1;
-    }
-    count
-}
-
 // The place of the first of the first count objects that refutes the implication; count where none does.
 pub fn first_refuting(
     rows: &[u64],
@@ -66,7 +35,7 @@ pub fn first_refuting(
 ) -> usize
     ensures { FirstRefuting (shared background) (shared list) rules (shared rows) count (implication premise conclusion) result }
 {
-    let whole = closures::smaller(count, rows.len() / 2);
-    let place = refuting_among(rows, whole, background, list, rules, premise, conclusion);
-    if place < whole { place } else { count }
+    word_pairs::first_that(rows, count, |yes, no| {
+        refuted_by(background, list, rules, yes, no, premise, conclusion)
+    })
 }

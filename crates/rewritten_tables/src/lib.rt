@@ -3,22 +3,14 @@
 
 ghost use Rattle.rewritten_tables.specs.Rewriting.{Rewrites};
 
-use session::Session;
-use table_layout::Opened;
-use table_writing::Written;
+use session::{Refusal, Session};
 
 // Writes what is read of a file into a lent output; every byte of it is kept where the file or what was read of it is refused.
-pub fn rewrite(file: &[u8], out: &mut [u8]) -> Written
+pub fn rewrite(file: &[u8], out: &mut [u8]) -> Result<usize, Refusal>
     ensures { Rewrites file out result }
 {
     let mut rows = [0u64; Session::ROWS * 2];
-    let opened = table_marks::read_marks(file, &mut rows);
-    let layout = match opened {
-        Opened::Found(layout) => layout,
-        Opened::Refused(refusal) => {
-            return Written::Refused(refusal);
-        }
-    };
-    let at = layout.object_names;
-    table_writer::write_table(layout.attributes, layout.objects, &rows, &file[at..], out)
+    let layout = table_marks::read_marks(file, &mut rows)?;
+    let names = &file[layout.object_names..];
+    table_writer::write_table(layout.attributes, layout.objects, &rows, names, out)
 }

@@ -18,11 +18,9 @@ fn count_attributes(counts: &mut [u64], n: usize, yes: u64)
     ensures { Adds n yes counts.old counts.new }
 {
     let mut left = yes;
-    let mut j = 0;
-    while j < n {
-        counts[j] += left % 2;
+    for count in &mut counts[..n] {
+        *count += left % 2;
         left /= 2;
-        j += 1;
     }
 }
 
@@ -43,11 +41,10 @@ fn count_rows(rows: &[u64], used: usize, premise: u64, counts: &mut [u64], n: us
     requires { (used ≤ most_objects) × (used * 2 ≤ length rows.now) × (n ≤ length counts.old) × Zero n counts.old }
     ensures { Counted n (objects_of used rows.now) premise result counts.new }
 {
+    let (pairs, _) = rows.as_chunks::<2>();
     let mut total = 0;
-    let mut i = 0;
-    while i < used {
-        total = count_row(counts, n, total, premise, rows[i * 2]);
-        i += 1;
+    for row in &pairs[..used] {
+        total = count_row(counts, n, total, premise, row[0]);
     }
     total
 }
@@ -70,10 +67,8 @@ fn exceeding(counts: &[u64], n: usize, total: u64, percent: u64) -> u64
     ensures { result ≡ passing (exceeds_by percent total counts.now) n }
 {
     let mut set = 0;
-    let mut p = 0;
-    while p < n {
-        set = joined(set, p, counts[p], total, percent);
-        p += 1;
+    for (p, counted) in counts[..n].iter().enumerate() {
+        set = joined(set, p, *counted, total, percent);
     }
     set
 }
@@ -82,16 +77,7 @@ fn exceeding(counts: &[u64], n: usize, total: u64, percent: u64) -> u64
 pub fn in_range(n: usize, used: usize, words: usize, percent: u64) -> bool
     ensures { TestOf result (InRange n used words percent) }
 {
-    if Session::ATTRIBUTES < n {
-        return false;
-    }
-    if Session::ROWS < used {
-        return false;
-    }
-    if words / 2 < used {
-        return false;
-    }
-    percent <= PERCENT
+    n <= Session::ATTRIBUTES && used <= Session::ROWS && used <= words / 2 && percent <= PERCENT
 }
 
 // The attributes that more than so many per cent of the rows in use with the premise have, but for the premise.

@@ -3,11 +3,11 @@
 #![tactic(auto)]
 
 ghost use Rattle.context.specs.Parts.{shared};
-ghost use Rattle.std.specs.Prelude.{◌≡◌, ◌*◌, ◌≤◌, min, length};
+ghost use Rattle.std.specs.Prelude.{◌≡◌, min};
 ghost use Rattle.context.specs.Objects.{object};
 ghost use Rattle.context.specs.Parts.{lent_force};
 ghost use Rattle.reach.specs.Reach.{cut};
-ghost use Rattle.reach.specs.Lent.{NarrowBy, ReachOf};
+ghost use Rattle.reach.specs.Lent.{ReachOf};
 
 // What one object leaves of x: what it does not lack, where it has the set.
 fn cut_by(
@@ -27,36 +27,6 @@ fn cut_by(
     )
 }
 
-// What the first count objects leave of x.
-fn narrow_by(
-    rows: &[u64],
-    count: usize,
-    background: &[u64],
-    list: &[u64],
-    rules: usize,
-    set: u64,
-    x: u64,
-) -> u64
-    requires { count * 2 ≤ length rows.now }
-    ensures { NarrowBy (shared background) (shared list) rules (shared rows) count set x result }
-{
-    let mut left = x;
-    let mut i = 0;
-    while i < count {
-        left = cut_by(
-            background,
-            list,
-            rules,
-            rows[i * 2],
-            rows[i * 2 + 1],
-            set,
-            left,
-        );
-        i += 1;
-    }
-    left
-}
-
 // The reach of a set among the first n attributes (64 at the most), over the first count objects.
 pub fn reach_of(
     n: usize,
@@ -69,13 +39,7 @@ pub fn reach_of(
 ) -> u64
     ensures { ReachOf (shared background) (shared list) rules (min n 64) (shared rows) count set result }
 {
-    narrow_by(
-        rows,
-        closures::smaller(count, rows.len() / 2),
-        background,
-        list,
-        rules,
-        set,
-        set_words::full_set(n),
-    )
+    word_pairs::fold_pairs(rows, count, set_words::full_set(n), |yes, no, left| {
+        cut_by(background, list, rules, yes, no, set, left)
+    })
 }

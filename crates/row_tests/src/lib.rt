@@ -12,23 +12,19 @@ ghost use Rattle.machine.specs.Checks.{bad_row};
 pub fn bad_row(n: usize, yes: u64, no: u64) -> bool
     ensures { result ≡ bad_row n (object yes no) }
 {
-    if outside_check::strange_pair(yes, no, set_words::full_set(n)) {
-        return true;
-    }
-    yes & no != 0
+    outside_check::strange_pair(yes, no, set_words::full_set(n)) || yes & no != 0
 }
 
 // The test of check 33: a yes mark would become a no, or a no a yes.
+#[tactic(auto, unfolding(context::specs::Filling::reverses, attribute_set::specs::Sets::meets))]
 pub fn reverses_mark(known_yes: u64, known_no: u64, yes: u64, no: u64) -> bool
     ensures { result ≡ reverses (object known_yes known_no) (object yes no) }
 {
-    if known_yes & no != 0 {
-        return true;
-    }
-    known_no & yes != 0
+    known_yes & no != 0 || known_no & yes != 0
 }
 
 // The test of check 11: a row that contradicts the implications in force.
+#[tactic(auto, unfolding(context::specs::Objects::contradicts, attribute_set::specs::Sets::meets))]
 pub fn row_contradicts(background: &[u64], list: &[u64], rules: usize, yes: u64, no: u64) -> bool
     ensures { result ≡ contradicts (lent_force (shared background) (shared list) rules) (object yes no) }
 {

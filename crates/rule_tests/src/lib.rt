@@ -14,7 +14,7 @@ pub fn check_rule(
     background: &[u64],
     premise: u64,
     conclusion: u64,
-) -> size_checks::Verdict
+) -> Result<(), session::Refusal>
     ensures { RuleTested (given session (shared rows) (shared list) (shared background)) (implication premise conclusion) result }
 {
     let used = session.rows;
@@ -28,5 +28,5 @@ pub fn check_rule(
     if list.len() / 2 <= rules {
         return size_checks::refused(12, 0);
     }
-    size_checks::Verdict::Passed
+    Ok(())
 }

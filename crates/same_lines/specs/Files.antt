@@ -1,10 +1,8 @@
 -- When two table files say the same (02, request 1/13): the same counts, names and rows, or refusals with the same number at the same line.
 -- An object is 01's row, an attribute its property.
-use Rattle.std.specs.Prelude.{◌≡◌, List, ℕ, ◌≤◌, length}
+use Rattle.std.specs.Prelude.{◌≡◌, List, ℕ, ◌≤◌, length, Result, Ok, Err}
 use Rattle.session.specs.declared.Refusal.{Refusal}
 use Rattle.table_layout.specs.declared.Layout.{Layout}
-use Rattle.table_layout.specs.declared.Opened.{Opened}
-use Rattle.table_layout.specs.declared.Opened.TheVariants.{Found, Refused}
 use Rattle.table_lines.specs.Lines.{skipped}
 use Rattle.table_lines.specs.Pieces.{lines_of}
 use Rattle.table_layout.specs.Layout.{opened_of}
@@ -37,11 +35,11 @@ pub record SameTable (f g : List ℕ) (l l' : Layout) : Type 0 where
   pub rows : rows_from l.objects f l.marks ≡ rows_from l'.objects g l'.marks
 
 -- both answers are tables that say the same, or both are refusals that do
-abbrev pub SameAnswer : List ℕ → List ℕ → Opened → Opened → Type 0
-SameAnswer f g (Found l) (Found l') = SameTable f g l l'
-SameAnswer f g (Found l) (Refused r') = ⊥
-SameAnswer f g (Refused r) (Found l') = ⊥
-SameAnswer f g (Refused r) (Refused r') = SameRefusal f g r r'
+abbrev pub SameAnswer : List ℕ → List ℕ → Result Layout Refusal → Result Layout Refusal → Type 0
+SameAnswer f g (Ok l) (Ok l') = SameTable f g l l'
+SameAnswer f g (Ok l) (Err r') = ⊥
+SameAnswer f g (Err r) (Ok l') = ⊥
+SameAnswer f g (Err r) (Err r') = SameRefusal f g r r'
 
 -- opened, and opened as a complete table; read into lent row words, and as a complete table: the same answer and the same words
 pub record SaySame (f g : List ℕ) : Type 0 where

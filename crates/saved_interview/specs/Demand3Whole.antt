@@ -27,9 +27,9 @@ pub record Interview (n : ℕ) (background : List ℕ) : Type 0 where
   pub rows_later : List ℕ
   pub list_later : List ℕ
   pub answers_after : List ℕ
-  -- the opening accepted: what the contract of `session_opening::open` says where it answers Open
+  -- the opening accepted: what the contract of `session_opening::open` says where it answers Ok
   pub opens : opened (state_of start rows list background) ≡ opening_from n used rows list background
-  -- the calls were made: what the contract of `replay` says where it answers Replayed
+  -- the calls were made: what the contract of `replay` says where it answers Ok
   pub made : AllMade background calls start (log_words rows list answers) end (log_words rows_later list_later answers_after)
 
 module _ {n : ℕ} {background : List ℕ} (i : Interview n background) where

@@ -29,7 +29,7 @@ pub record Continued {n : ℕ} {background : List ℕ} (i : Interview n backgrou
   pub rows_later : List ℕ
   pub list_later : List ℕ
   pub answers_after : List ℕ
-  -- the calls were made: what the contract of `replay` says where it answers Replayed
+  -- the calls were made: what the contract of `replay` says where it answers Ok
   pub made : AllMade background calls i.end (log_words i.rows_later i.list_later answers) end (log_words rows_later list_later answers_after)
 
 module _ {n : ℕ} {background : List ℕ} (i : Interview n background) (more : Continued i) where

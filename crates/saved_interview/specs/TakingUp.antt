@@ -1,6 +1,6 @@
 -- A saved interview taken up again: a session is opened and a log of calls is made on it, in one call. Its contract joins demand 3 and request
 -- 8/13 to the code: where the calls were made, `Demand3Whole`, the `Trace` and `ShownInLog` of the interview made of the values at entry and at exit.
-use Rattle.std.specs.Prelude.{◌≡◌, ◌⊎◌, Bool, true, false, List, ℕ, ◌/◌, ◌<◌, length}
+use Rattle.std.specs.Prelude.{◌≡◌, ◌⊎◌, Bool, true, false, List, ℕ, ◌/◌, ◌<◌, length, Ok, Err}
 use Rattle.session.specs.declared.Session.{Session}
 use Rattle.session.specs.declared.Refusal.{Refusal}
 use Rattle.context.specs.Objects.{Object}
@@ -10,17 +10,15 @@ use Rattle.demands.specs.Demand3.{Finished}
 use Rattle.machine.specs.Calls.{state_of, Words, Record, opening_from}
 use Rattle.answer_words.specs.declared.Answer.{Answer as Coded}
 use Rattle.answer_words.specs.Codes.{coded, LentAnswer}
-use Rattle.call_logs.specs.Replay.{LogWords, log_words, AllMade}
-use Rattle.call_logs.specs.declared.Log.{Log}
-use Rattle.call_logs.specs.declared.Log.TheVariants.{Replayed, Short}
+use Rattle.call_logs.specs.Replay.{LogWords, log_words, Replayed, AllMade}
 use Rattle.saved_interview.specs.Demand3Whole.{Interview, state_opened, end_state, script, Demand3Whole, SameLists}
 use Rattle.saved_interview.specs.Trace.{Trace}
 use Rattle.saved_interview.specs.ShownResultsWhole.{ShownInLog}
 
 -- the answer to a log, the record that is left, and whether it changed: only where the calls were made
-abbrev pub TurnAfter : Session → Log → Session → Coded → Session → Bool → Type 0
-TurnAfter before Replayed after x left changed = (x ≡ coded 103 0 0) × ((left ≡ after) × (changed ≡ true))
-TurnAfter before Short after x left changed = (x ≡ coded 3 0 0) × ((left ≡ before) × (changed ≡ false))
+abbrev pub TurnAfter : Session → Replayed → Coded → Session → Bool → Type 0
+TurnAfter before (Ok after) x left changed = (x ≡ coded 103 0 0) × ((left ≡ after) × (changed ≡ true))
+TurnAfter before (Err e) x left changed = (x ≡ coded 3 0 0) × ((left ≡ before) × (changed ≡ false))
 
 -- n, rows in use, background words, words of the calls; the record and words before, the answer, and the record and words after
 module _ (n used : ℕ) (background calls : List ℕ) (before : Session) (words : LogWords) (x : Coded) (after : Session) (words' : LogWords) where

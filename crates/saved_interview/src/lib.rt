@@ -2,34 +2,16 @@
 #![tactic(auto)]
 
 ghost use Rattle.context.specs.Parts.{mutable, shared};
-ghost use Rattle.saved_interview.specs.TakingUp.{TurnAfter, TakesUpTo};
+ghost use Rattle.saved_interview.specs.TakingUp.{TakesUpTo};
 
-// The answer to a log, and the record after it: the one before where the answers had no room.
-fn turn_after(
-    session: session::Session,
-    log: call_logs::Log,
-    after: session::Session,
-) -> coded_opening::Turn
-    ensures { TurnAfter session log after result.answer result.session result.changed }
-{
-    match log {
-        call_logs::Log::Replayed => coded_opening::Turn {
-            answer: answer_words::in_words(answer_words::Answer::TAKEN, 0, 0),
-            session: after,
-            changed: true,
-        },
-        call_logs::Log::Short => coded_opening::Turn {
-            answer: answer_words::in_words(answer_words::Answer::NO_ROOM, 0, 0),
-            session,
-            changed: false,
-        },
-    }
-}
+use answer_words::{Answer, in_words};
+use call_logs::NoRoom;
+use session::{Session, Turn};
 
 // Opens a session and makes each call of a log, with its answer written down. Nothing is done where the opening is refused, and where the
 // answers have no room for all calls.
 pub fn open_and_replay(
-    session: session::Session,
+    session: Session,
     n: usize,
     used: usize,
     rows: &mut [u64],
@@ -37,23 +19,16 @@ pub fn open_and_replay(
     background: &[u64],
     calls: &[u64],
     answers: &mut [u64],
-) -> coded_opening::Turn
+) -> Turn<Answer>
     ensures { TakesUpTo n used session (mutable rows) (mutable list) (shared background) (shared calls) (mutable answers)
         result.answer result.session result.changed }
 {
-    let opened = session_opening::open(n, used, rows, list, background);
-    let start = match opened {
-        session_opening::Opened::Open(start) => start,
-        session_opening::Opened::Refused(refusal) => {
-            return coded_opening::Turn {
-                answer: answer_words::answer_of_refusal(refusal),
-                session,
-                changed: false,
-            };
-        }
+    let start = match session_opening::open(n, used, rows, list, background) {
+        Ok(start) => start,
+        Err(refusal) => return Turn::kept(session, Answer::from(refusal)),
     };
-    let replayed = call_logs::replay(start, rows, list, background, calls, answers);
-    let log = replayed.log;
-    let after = replayed.session;
-    turn_after(session, log, after)
+    match call_logs::replay(start, rows, list, background, calls, answers) {
+        Ok(after) => Turn::changed(after, in_words(Answer::TAKEN, 0, 0)),
+        Err(NoRoom) => Turn::kept(session, in_words(Answer::NO_ROOM, 0, 0)),
+    }
 }

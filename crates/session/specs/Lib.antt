@@ -2,3 +2,4 @@ pub mod Choice
 pub mod Limits
 pub mod Records
 pub mod Refusals
+pub mod Turns

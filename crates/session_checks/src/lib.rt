@@ -2,35 +2,24 @@
 #![tactic(auto)]
 
 ghost use Rattle.context.specs.Parts.{shared};
-ghost use Rattle.std.specs.Prelude.{◌≡◌};
 ghost use Rattle.implication.specs.Closure.{implication};
 ghost use Rattle.machine.specs.Calls.{given};
-ghost use Rattle.size_checks.specs.Verdicts.{verdict_of};
-ghost use Rattle.session_checks.specs.Checked.{first_of, Closed, Checked};
+ghost use Rattle.session_checks.specs.Checked.{Closed, Checked};
 
 // Check 7: the current set is its own closure under the rules in force.
+#[tactic(auto, unfolding(machine::specs::Checks::first_failing))]
 fn check_closed(
     background: &[u64],
     list: &[u64],
     rules: usize,
     current: u64,
-) -> size_checks::Verdict
+) -> Result<(), session::Refusal>
     ensures { Closed (shared background) (shared list) rules current result }
 {
     if closures::closure_of(background, list, rules, current) != current {
         return size_checks::refused(7, 0);
     }
-    size_checks::Verdict::Passed
-}
-
-// The first of two verdicts that refuses, in their order.
-pub fn earlier(first: size_checks::Verdict, second: size_checks::Verdict) -> size_checks::Verdict
-    ensures { verdict_of result ≡ first_of (verdict_of first) (verdict_of second) }
-{
-    match first {
-        size_checks::Verdict::Refused(refusal) => size_checks::Verdict::Refused(refusal),
-        size_checks::Verdict::Passed => second,
-    }
+    Ok(())
 }
 
 // Checks 1 to 7, with a rule asked about; the empty one, {} to {}, where none is.
@@ -41,19 +30,14 @@ pub fn check_session(
     background: &[u64],
     premise: u64,
     conclusion: u64,
-) -> size_checks::Verdict
+) -> Result<(), session::Refusal>
     ensures { Checked (given session (shared rows) (shared list) (shared background)) (implication premise conclusion) result }
 {
-    let rules = session.rules;
-    let current = session.current;
-    let small = size_checks::check_sizes(session, rows, list, background);
-    if let size_checks::Verdict::Refused(refusal) = small {
-        return size_checks::Verdict::Refused(refusal);
-    }
+    size_checks::check_sizes(session, rows, list, background)?;
     if outside_check::check_outside(session, rows, list, background, premise, conclusion) {
         return size_checks::refused(4, 0);
     }
     let marked = mark_checks::check_marks(session, rows, list, background);
-    let closed = check_closed(background, list, rules, current);
-    earlier(marked, closed)
+    let closed = check_closed(background, list, session.rules, session.current);
+    marked.and(closed)
 }

@@ -8,20 +8,21 @@ ghost use Rattle.machine.specs.Machine.{file};
 ghost use Rattle.machine.specs.Calls.{Turns};
 ghost use Rattle.session_replies.specs.Answers.{reply_answer};
 
+use session::{Refusal, Session, Turn};
+
 // 02's filing: the offered row becomes the next row. No question has to stand.
 pub fn file_row(
-    session: session::Session,
+    session: Session,
     rows: &mut [u64],
     list: &[u64],
     background: &[u64],
     yes: u64,
     no: u64,
-) -> session_replies::Replied
+) -> Turn<Result<(), Refusal>>
     ensures { Turns (file (object yes no)) session (mutable rows) (shared list) (shared background)
         (reply_answer result.answer) result.session result.changed }
 {
-    let verdict = session_checks::check_session(session, rows, list, background, 0, 0);
-    if let size_checks::Verdict::Refused(refusal) = verdict {
+    if let Err(refusal) = session_checks::check_session(session, rows, list, background, 0, 0) {
         return session_replies::refused(session, refusal);
     }
     checked_filing::file_checked(session, rows, list, background, yes, no)

@@ -1,14 +1,14 @@
 -- What the parts of a filling promise (02, request 7/13): the verdict of its checks, and the row words with marks added to a row.
-use Rattle.std.specs.Prelude.{◌≡◌, List, ℕ, ◌+◌, ◌*◌, get_or, set}
+use Rattle.std.specs.Prelude.{◌≡◌, List, ℕ, ◌+◌, ◌*◌, get_or, set, Result}
 use Rattle.std.specs.Int.Bits.{bit_or}
 use Rattle.context.specs.Objects.{Object}
 use Rattle.machine.specs.Checks.{State, first_failing}
 use Rattle.machine.specs.Machine.{fill, checks_of}
-use Rattle.size_checks.specs.declared.Verdict.{Verdict}
+use Rattle.session.specs.declared.Refusal.{Refusal}
 use Rattle.size_checks.specs.Verdicts.{verdict_of}
 
 -- the verdict of checks 1 to 7, 32, 9, 33 and 11 of a filling of row k
-abbrev pub FillChecked : State → ℕ → Object → Verdict → Type 0
+abbrev pub FillChecked : State → ℕ → Object → Result (Unit {0}) Refusal → Type 0
 FillChecked s k m v = verdict_of v ≡ first_failing (checks_of s (fill k m))
 
 -- the words with the marks of m added to the two words of row k

@@ -10,30 +10,36 @@ ghost use Rattle.machine.specs.Calls.{given, Performs};
 ghost use Rattle.session_replies.specs.Answers.{reply_answer};
 ghost use Rattle.session_late_marks.specs.Marks.{FillChecked, marked};
 
+use session::{Refusal, Session};
+
 // The checks of a filling: 1 to 7, then 32, 9, 33 and 11.
+#[tactic(auto, using(crate::proofs::Marks::Laws::fill_places))]
 fn check_fill(
-    session: session::Session,
+    session: Session,
     rows: &[u64],
     list: &[u64],
     background: &[u64],
     row: usize,
     yes: u64,
     no: u64,
-) -> size_checks::Verdict
+) -> Result<(), Refusal>
     ensures { FillChecked (given session (shared rows) (shared list) (shared background)) row (object yes no) result }
 {
-    let verdict = session_checks::check_session(session, rows, list, background, 0, 0);
-    if let size_checks::Verdict::Refused(refusal) = verdict {
-        return size_checks::Verdict::Refused(refusal);
-    }
+    session_checks::check_session(session, rows, list, background, 0, 0)?;
     if session.rows <= row {
         return size_checks::refused(32, 0);
     }
-    let rules = session.rules;
     let known_yes = rows[row * 2];
     let known_no = rows[row * 2 + 1];
     offered_rows::check_added_marks(
-        session.n, background, list, rules, known_yes, known_no, yes, no,
+        session.n,
+        background,
+        list,
+        session.rules,
+        known_yes,
+        known_no,
+        yes,
+        no,
     )
 }
 
@@ -42,28 +48,23 @@ fn add_marks(rows: &mut [u64], row: usize, yes: u64, no: u64)
     requires { row * 2 + 1 < length rows.old }
     ensures { rows.new ≡ marked rows.old row (object yes no) }
 {
-    let known_yes = rows[row * 2];
-    let known_no = rows[row * 2 + 1];
-    rows[row * 2] = known_yes | yes;
-    rows[row * 2 + 1] = known_no | no;
+    rows[row * 2] |= yes;
+    rows[row * 2 + 1] |= no;
 }
 
 // 02's filling: the marks of the offered row are added to the row of this number.
 pub fn fill_row(
-    session: session::Session,
+    session: Session,
     rows: &mut [u64],
     list: &[u64],
     background: &[u64],
     row: usize,
     yes: u64,
     no: u64,
-) -> session_replies::Reply
+) -> Result<(), Refusal>
     ensures { Performs (fill row (object yes no)) session (mutable rows) (shared list) (shared background) (reply_answer result) session }
 {
-    let verdict = check_fill(session, rows, list, background, row, yes, no);
-    if let size_checks::Verdict::Refused(refusal) = verdict {
-        return session_replies::Reply::Refused(refusal);
-    }
+    check_fill(session, rows, list, background, row, yes, no)?;
     add_marks(rows, row, yes, no);
-    session_replies::Reply::Taken
+    Ok(())
 }

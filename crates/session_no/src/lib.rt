@@ -8,20 +8,21 @@ ghost use Rattle.machine.specs.Machine.{reject as rejecting};
 ghost use Rattle.machine.specs.Calls.{Turns};
 ghost use Rattle.session_replies.specs.Answers.{reply_answer};
 
+use session::{Refusal, Session, Turn};
+
 // 01's no: the offered row, which refutes the standing question, becomes the next row. The test makes checks 1 to 7 for both.
 pub fn reject(
-    session: session::Session,
+    session: Session,
     rows: &mut [u64],
     list: &[u64],
     background: &[u64],
     yes: u64,
     no: u64,
-) -> session_replies::Replied
+) -> Turn<Result<(), Refusal>>
     ensures { Turns (rejecting (object yes no)) session (mutable rows) (shared list) (shared background)
         (reply_answer result.answer) result.session result.changed }
 {
-    let tested = session_test::test_row(session, rows, list, background, yes, no);
-    if let session_test::Testing::Refused(refusal) = tested {
+    if let Err(refusal) = session_test::test_row(session, rows, list, background, yes, no) {
         return session_replies::refused(session, refusal);
     }
     checked_filing::file_checked(session, rows, list, background, yes, no)

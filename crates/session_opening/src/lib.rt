@@ -5,25 +5,24 @@
 ghost use Rattle.context.specs.Parts.{shared};
 ghost use Rattle.session_opening.specs.Opening.{Opens};
 
-#[derive(Clone, Copy)]
-pub enum Opened {
-    Open(session::Session),
-    Refused(session::Refusal),
-}
+use session::{Refusal, Session};
 
 // The opening: so many rows are in use, the list is empty, and the current set is the closure of the empty set.
-pub fn open(n: usize, used: usize, rows: &[u64], list: &[u64], background: &[u64]) -> Opened
+pub fn open(
+    n: usize,
+    used: usize,
+    rows: &[u64],
+    list: &[u64],
+    background: &[u64],
+) -> Result<Session, Refusal>
     ensures { Opens n used (shared rows) (shared list) (shared background) result }
 {
-    let session = session::Session {
+    let session = Session {
         n,
         rows: used,
         rules: 0,
         current: closures::closure_of(background, list, 0, 0),
     };
-    let verdict = session_checks::check_session(session, rows, list, background, 0, 0);
-    match verdict {
-        size_checks::Verdict::Refused(refusal) => Opened::Refused(refusal),
-        size_checks::Verdict::Passed => Opened::Open(session),
-    }
+    session_checks::check_session(session, rows, list, background, 0, 0)?;
+    Ok(session)
 }

@@ -8,75 +8,51 @@ ghost use Rattle.machine.specs.Machine.{follow, refute};
 ghost use Rattle.machine.specs.Calls.{Performs};
 ghost use Rattle.session_queries.specs.Answers.{following_answer, refuting_answer};
 
-#[derive(Clone, Copy)]
-pub enum Following {
-    Follows,
-    Lacking,
-    Refused(session::Refusal),
-}
-
-#[derive(Clone, Copy)]
-pub enum Refuting {
-    By(usize),
-    Nothing,
-    Refused(session::Refusal),
-}
+use session::{Refusal, Session};
 
 // Whether an implication follows from those in force.
+#[tactic(auto, using(crate::proofs::Answers::Laws::follow_refused, crate::proofs::Answers::Laws::follow_answered))]
 pub fn follows(
-    session: session::Session,
+    session: Session,
     rows: &[u64],
     list: &[u64],
     background: &[u64],
     premise: u64,
     conclusion: u64,
-) -> Following
+) -> Result<bool, Refusal>
     ensures { Performs (follow (implication premise conclusion)) session (shared rows) (shared list) (shared background)
         (following_answer result) session }
 {
-    let rules = session.rules;
-    let verdict = session_checks::check_session(
-        session, rows, list, background, premise, conclusion,
-    );
-    if let size_checks::Verdict::Refused(refusal) = verdict {
-        return Following::Refused(refusal);
-    }
-    if following::follows_from(background, list, rules, premise, conclusion) {
-        return Following::Follows;
-    }
-    Following::Lacking
+    session_checks::check_session(session, rows, list, background, premise, conclusion)?;
+    Ok(following::follows_from(background, list, session.rules, premise, conclusion))
 }
 
-// Whether a row refutes an implication, with the first such row.
+// Whether a row refutes an implication: the first such row.
+#[tactic(auto, using(crate::proofs::Answers::Laws::refute_refused))]
 pub fn refuted(
-    session: session::Session,
+    session: Session,
     rows: &[u64],
     list: &[u64],
     background: &[u64],
     premise: u64,
     conclusion: u64,
-) -> Refuting
+) -> Result<Option<usize>, Refusal>
     ensures { Performs (refute (implication premise conclusion)) session (shared rows) (shared list) (shared background)
         (refuting_answer result) session }
 {
-    let used = session.rows;
-    let verdict = session_checks::check_session(
-        session, rows, list, background, premise, conclusion,
-    );
-    if let size_checks::Verdict::Refused(refusal) = verdict {
-        return Refuting::Refused(refusal);
-    }
+    session_checks::check_session(session, rows, list, background, premise, conclusion)?;
     let row = refuting_rows::first_refuting(
         rows,
-        used,
+        session.rows,
         background,
         list,
         session.rules,
         premise,
         conclusion,
     );
-    if row < used {
-        return Refuting::By(row);
+    if row < session.rows {
+        Ok(Some(row))
+    } else {
+        Ok(None)
     }
-    Refuting::Nothing
 }

@@ -2,7 +2,7 @@
 -- `session_late_marks::fill_row` answers: its contract says that it is the machine's. It is a refusal with 11 just if no complete table agrees
 -- with all rows in use, all rules in force and the reply, or the offered row; of a filling, just if none agrees with all rows, the one of its
 -- number filled, and all rules.
-use Rattle.std.specs.Prelude.{◌≡◌, ◌↔◌, List, ℕ}
+use Rattle.std.specs.Prelude.{◌≡◌, ◌↔◌, List, ℕ, Result}
 use Rattle.std.proofs.Common.{sym, ◌∙◌}
 use Rattle.context.specs.Objects.{Object, object}
 use Rattle.machine.specs.Checks.{State, question}
@@ -13,13 +13,13 @@ use Rattle.demands.proofs.Demand2.Theorem.{demand-2}
 use Rattle.machine.specs.Calls.{state_of}
 use Rattle.session_replies.specs.Answers.{reply_answer}
 use Rattle.session.specs.declared.Session.{Session}
-use Rattle.session_replies.specs.declared.Reply.{Reply}
+use Rattle.session.specs.declared.Refusal.{Refusal}
 
 -- the answer is a refusal with 11, at some place
-abbrev pub Says11 : Reply → Type 0
+abbrev pub Says11 : Result (Unit {0}) Refusal → Type 0
 Says11 answer = (p : ℕ) × (reply_answer answer ≡ refused (record { number = 11; place = p }))
 
-module _ (session : Session) (rows list background : List ℕ) (answer : Reply) where
+module _ (session : Session) (rows list background : List ℕ) (answer : Result (Unit {0}) Refusal) where
   abbrev before : State
   before = state_of session rows list background
 

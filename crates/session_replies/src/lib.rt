@@ -4,27 +4,12 @@
 ghost use Rattle.std.specs.Prelude.{◌≡◌};
 ghost use Rattle.session_replies.specs.Answers.{refused_with};
 
-#[derive(Clone, Copy)]
-pub enum Reply {
-    Taken,
-    Refused(session::Refusal),
-}
-
-// The answer, the record after the call, and whether it differs from the one before.
-#[derive(Clone, Copy)]
-pub struct Replied {
-    pub answer: Reply,
-    pub session: session::Session,
-    pub changed: bool,
-}
-
 // A refusal gives the record back as it was.
-pub fn refused(session: session::Session, refusal: session::Refusal) -> Replied
+pub fn refused(
+    session: session::Session,
+    refusal: session::Refusal,
+) -> session::Turn<Result<(), session::Refusal>>
     ensures { result ≡ refused_with session refusal }
 {
-    Replied {
-        answer: Reply::Refused(refusal),
-        session,
-        changed: false,
-    }
+    session::Turn::kept(session, Err(refusal))
 }

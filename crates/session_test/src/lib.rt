@@ -8,26 +8,20 @@ ghost use Rattle.machine.specs.Machine.{test};
 ghost use Rattle.machine.specs.Calls.{Performs};
 ghost use Rattle.session_test.specs.Answers.{testing_answer};
 
-#[derive(Clone, Copy)]
-pub enum Testing {
-    Refutes,
-    Refused(session::Refusal),
-}
+use session::{Refusal, Session};
 
 // 02's test: whether the offered row refutes the standing question.
+#[tactic(auto, using(crate::proofs::Answers::Laws::test_refused, crate::proofs::Answers::Laws::test_passed))]
 pub fn test_row(
-    session: session::Session,
+    session: Session,
     rows: &[u64],
     list: &[u64],
     background: &[u64],
     yes: u64,
     no: u64,
-) -> Testing
+) -> Result<(), Refusal>
     ensures { Performs (test (object yes no)) session (shared rows) (shared list) (shared background) (testing_answer result) session }
 {
-    let asking = reply_checks::check_test(session, rows, list, background, yes, no);
-    if let reply_checks::Asking::Refused(refusal) = asking {
-        return Testing::Refused(refusal);
-    }
-    Testing::Refutes
+    reply_checks::check_test(session, rows, list, background, yes, no)?;
+    Ok(())
 }

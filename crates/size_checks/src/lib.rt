@@ -1,4 +1,5 @@
-// Checks 1 to 3 of document 01, in its order: the number of attributes, the lent lengths, the rows and rules in use. What checks answer.
+// Checks 1 to 3 of document 01, in its order: the number of attributes, the lent lengths, the rows and rules in use. The refusal of a
+// check that fails.
 #![tactic(auto)]
 
 ghost use Rattle.context.specs.Parts.{shared};
@@ -8,27 +9,23 @@ ghost use Rattle.session.specs.Refusals.{refusal};
 ghost use Rattle.machine.specs.Calls.{given};
 ghost use Rattle.size_checks.specs.Verdicts.{verdict_of, Sizes};
 
-// Whether checks pass, or the refusal of the first that fails.
-#[derive(Clone, Copy)]
-pub enum Verdict {
-    Passed,
-    Refused(session::Refusal),
-}
+use session::Refusal;
 
 // The verdict of a check that fails.
-pub fn refused(number: u64, place: usize) -> Verdict
+pub fn refused(number: u64, place: usize) -> Result<(), Refusal>
     ensures { verdict_of result ≡ some (refusal number place) }
 {
-    Verdict::Refused(session::refuse(number, place))
+    Err(session::refuse(number, place))
 }
 
 // Checks 1 to 3.
+#[tactic(auto, using(implication::proofs::Pairs::Laws::length_pairs), unfolding(machine::specs::Checks::session_checks, machine::specs::Checks::first_failing))]
 pub fn check_sizes(
     session: session::Session,
     rows: &[u64],
     list: &[u64],
     background: &[u64],
-) -> Verdict
+) -> Result<(), Refusal>
     ensures { Sizes (given session (shared rows) (shared list) (shared background)) result }
 {
     if size_tests::bad_count(session.n) {
@@ -40,5 +37,5 @@ pub fn check_sizes(
     if size_tests::bad_places(rows.len(), session.rows, list.len(), session.rules) {
         return refused(3, 0);
     }
-    Verdict::Passed
+    Ok(())
 }

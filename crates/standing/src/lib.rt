@@ -13,10 +13,9 @@ pub struct Question {
     pub conclusion: u64,
 }
 
-// What checks 1 to 7 refuse; else how the current set stands: it is M; its reach is itself; or a question stands.
+// How the current set stands: it is M; its reach is itself; or a question stands.
 #[derive(Clone, Copy)]
 pub enum Standing {
-    Refused(session::Refusal),
     Full,
     Tight,
     Open(Question),
@@ -28,25 +27,22 @@ pub fn find_standing(
     rows: &[u64],
     list: &[u64],
     background: &[u64],
-) -> Standing
+) -> Result<Standing, session::Refusal>
     ensures { result ≡ found (given session (shared rows) (shared list) (shared background)) }
 {
     let n = session.n;
     let rules = session.rules;
     let current = session.current;
-    let verdict = session_checks::check_session(session, rows, list, background, 0, 0);
-    if let size_checks::Verdict::Refused(refusal) = verdict {
-        return Standing::Refused(refusal);
-    }
+    session_checks::check_session(session, rows, list, background, 0, 0)?;
     if current == set_words::full_set(n) {
-        return Standing::Full;
+        return Ok(Standing::Full);
     }
     let x = row_reach::reach_of(n, rows, session.rows, background, list, rules, current);
     if x == current {
-        return Standing::Tight;
+        return Ok(Standing::Tight);
     }
-    Standing::Open(Question {
+    Ok(Standing::Open(Question {
         premise: current,
         conclusion: set_words::difference(x, current),
-    })
+    }))
 }

@@ -15,50 +15,31 @@ pub enum ByteKind {
 fn is_digit(b: u8) -> bool
     ensures { result ≡ is_digit b }
 {
-    match b {
-        b'0'..=b'9' => true,
-        _ => false,
-    }
+    matches!(b, b'0'..=b'9')
 }
 
 pub fn is_yes(b: u8) -> bool
     ensures { result ≡ is_yes b }
 {
-    match b {
-        b'X' => true,
-        b'x' => true,
-        _ => false,
-    }
+    matches!(b, b'X' | b'x')
 }
 
 pub fn is_no(b: u8) -> bool
     ensures { result ≡ is_no b }
 {
-    match b {
-        b'.' => true,
-        _ => false,
-    }
+    b == b'.'
 }
 
 fn is_unknown(b: u8) -> bool
     ensures { result ≡ is_unknown b }
 {
-    match b {
-        b'?' => true,
-        _ => false,
-    }
+    b == b'?'
 }
 
 fn is_mark(b: u8) -> bool
     ensures { result ≡ is_mark b }
 {
-    match b {
-        b'X' => true, // yes
-        b'x' => true, // yes
-        b'.' => true, // no
-        b'?' => true, // unknown
-        _ => false,
-    }
+    matches!(b, b'X' | b'x' | b'.' | b'?')
 }
 
 // The byte is what is asked of it.

@@ -6,18 +6,18 @@ ghost use Rattle.table_bytes.specs.Bytes.{is_digit};
 ghost use Rattle.line_bytes.specs.Everywhere.{everywhere};
 ghost use Rattle.table_counts.specs.Counts.{decimal_from, is_count, count_of};
 
+// The most digits of a count.
+const MOST_DIGITS: usize = 4;
+
 // 1 to 4 digits.
+#[tactic(auto, unfolding(crate::specs::Counts::is_count))]
 pub fn is_count(line: &[u8]) -> bool
     ensures { result ≡ is_count line.now }
 {
-    let size = line.len();
-    if size == 0 {
+    if line.is_empty() {
         return false;
     }
-    if 4 < size {
-        return false;
-    }
-    line_bytes::all_pass(line, table_bytes::ByteKind::Digit)
+    line.len() <= MOST_DIGITS && line_bytes::all_pass(line, table_bytes::ByteKind::Digit)
 }
 
 // The number of at most 4 digits.
@@ -26,20 +26,16 @@ fn decimal(line: &[u8]) -> usize
     ensures { result ≡ decimal_from 0 line.now }
 {
     let mut n = 0;
-    let mut i = 0;
-    while i < line.len() {
-        n = n * 10 + (line[i] - b'0') as usize;
-        i += 1;
+    for digit in line {
+        n = n * 10 + usize::from(*digit - b'0');
     }
     n
 }
 
 // The count of a count line; 0 where it is none.
+#[tactic(auto, using(crate::proofs::Counts::Laws::counted), unfolding(crate::specs::Counts::count_of))]
 pub fn count_of(line: &[u8]) -> usize
     ensures { result ≡ count_of line.now }
 {
-    if !is_count(line) {
-        return 0;
-    }
-    decimal(line)
+    if is_count(line) { decimal(line) } else { 0 }
 }

@@ -4,33 +4,30 @@
 
 use std::io::Write;
 
+// A number, and a refusal: one `write!` each, which a crate for both programs would not shorten.
 fn put<W: Write>(writer: &mut W, n: u64) {
     let _ = write!(writer, " {n}");
 }
 
 fn put_refusal<W: Write>(writer: &mut W, refusal: session::Refusal) {
-    let _ = writer.write_all(b" E");
-    put(writer, refusal.number);
-    put(writer, refusal.place as u64);
+    let _ = write!(writer, " E {} {}", refusal.number, refusal.place);
 }
 
 // The words of a row of those that were read.
 fn put_row<W: Write>(writer: &mut W, rows: &[u64], number: usize) {
-    if number < session::Session::ROWS {
-        let at = number * 2;
-        if at + 1 < rows.len() {
-            put(writer, rows[at]);
-            put(writer, rows[at + 1]);
-        }
+    if let Some([yes, no]) = rows.as_chunks::<2>().0.get(number) {
+        put(writer, *yes);
+        put(writer, *no);
     }
 }
 
+// How many bytes a name has, 0 where there is none.
+fn put_size<W: Write>(writer: &mut W, name: Result<&[u8], session::Refusal>) {
+    put(writer, name.map_or(0, |bytes| bytes.len() as u64));
+}
+
 fn put_object<W: Write>(writer: &mut W, file: &[u8], layout: table_layout::Layout, number: usize) {
-    let mut refused = 0;
-    put(
-        writer,
-        table_names::object_name(file, layout, number, &mut refused).len() as u64,
-    );
+    put_size(writer, table_names::object_name(file, layout, number));
 }
 
 fn put_attribute<W: Write>(
@@ -39,11 +36,7 @@ fn put_attribute<W: Write>(
     layout: table_layout::Layout,
     number: usize,
 ) {
-    let mut refused = 0;
-    put(
-        writer,
-        table_names::attribute_name(file, layout, number, &mut refused).len() as u64,
-    );
+    put_size(writer, table_names::attribute_name(file, layout, number));
 }
 
 fn put_names<W: Write>(writer: &mut W, file: &[u8], layout: table_layout::Layout) {
@@ -62,14 +55,11 @@ fn put_names<W: Write>(writer: &mut W, file: &[u8], layout: table_layout::Layout
 // Whether the table is complete; else where its first unknown mark is.
 fn put_complete<W: Write>(writer: &mut W, file: &[u8]) {
     let mut rows = [0u64; session::Session::ROWS * 2];
-    let opened = table_marks::read_complete(file, &mut rows);
-    match opened {
-        table_layout::Opened::Found(_) => {
+    match table_marks::read_complete(file, &mut rows) {
+        Ok(_) => {
             let _ = writer.write_all(b" complete");
         }
-        table_layout::Opened::Refused(refusal) => {
-            put_refusal(writer, refusal);
-        }
+        Err(refusal) => put_refusal(writer, refusal),
     }
 }
 
@@ -89,24 +79,23 @@ fn put_table<W: Write>(writer: &mut W, file: &[u8], rows: &[u64], layout: table_
 
 fn show<W: Write>(writer: &mut W, file: &[u8]) {
     let mut rows = [0u64; session::Session::ROWS * 2];
-    let reading = table_marks::read_marks(file, &mut rows);
-    match reading {
-        table_layout::Opened::Found(layout) => put_table(writer, file, &rows, layout),
-        table_layout::Opened::Refused(refusal) => put_refusal(writer, refusal),
+    match table_marks::read_marks(file, &mut rows) {
+        Ok(layout) => put_table(writer, file, &rows, layout),
+        Err(refusal) => put_refusal(writer, refusal),
     }
 }
 
 fn show_argument(rt: &HostRuntime, number: usize) {
     let mut file = [0u8; table_layout::Layout::BYTES + 1];
     let (mut stdout, mut stderr) = (rt.stdout(), rt.stderr());
-    let named = named_files::read_argument(rt, number, &mut file, &mut stdout, &mut stderr);
-    let size = named.size;
-    if named.opened {
+    let read = named_files::read_argument(rt, number, &mut file, &mut stdout, &mut stderr);
+    if let Some(size) = read {
         show(&mut stdout, &file[..size]);
         let _ = stdout.write_all(b"\n");
     }
 }
 
+// A loop of one line, as in the other two programs over named files: a function for it would take what is done as a closure, and be longer.
 fn main(rt: HostRuntime) {
     for i in 1..named_files::count_arguments(&rt) {
         show_argument(&rt, i);

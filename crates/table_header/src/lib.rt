@@ -7,21 +7,21 @@ ghost use Rattle.table_counts.specs.Counts.{count_of};
 ghost use Rattle.line_walk.specs.Walk.{walk};
 ghost use Rattle.table_header.specs.Header.{object_count, attribute_count, header};
 
-use line_walk::Walk;
+use session::Refusal;
 use table_kinds::Kind;
 
 // The first five lines.
-pub fn walk_header(file: &[u8]) -> Walk
+pub fn walk_header(file: &[u8]) -> Result<usize, Refusal>
     ensures { result ≡ walk header file.now 0 }
 {
-    let letter = line_walk::walk_line(file, 0, Kind::Letter);
-    let title = table_walk::walk_lines(file, letter, Kind::Title, 1);
-    let objects = table_walk::walk_lines(file, title, Kind::Objects, 1);
-    let attributes = table_walk::walk_lines(file, objects, Kind::Attributes, 1);
-    table_walk::walk_lines(file, attributes, Kind::Blank, 1)
+    let title_at = line_walk::walk_line(file, 0, Kind::Letter)?;
+    let objects_at = line_walk::walk_line(file, title_at, Kind::Title)?;
+    let attributes_at = line_walk::walk_line(file, objects_at, Kind::Objects)?;
+    let blank_at = line_walk::walk_line(file, attributes_at, Kind::Attributes)?;
+    line_walk::walk_line(file, blank_at, Kind::Blank)
 }
 
-// The count of the line at an offset; 0 where it is no count.
+// The count of the line at an offset; 0 where it is no count, as `count_of` of specs/ says.
 fn count_at(file: &[u8], at: usize) -> usize
     requires { at ≤ length file.now }
     ensures { result ≡ count_of (bytes_at file.now at) }

@@ -1,5 +1,6 @@
 -- The words that an interview of a table file is lent, and the table that it is of (01, "The program").
-use Rattle.std.specs.Prelude.{◌≡◌, List, ℕ, ◌*◌, ◌≤◌, min, length}
+use Rattle.std.specs.Prelude.{◌≡◌, List, ℕ, ◌*◌, ◌≤◌, min, length, Result, Ok}
+use Rattle.session.specs.declared.Refusal.{Refusal}
 use Rattle.context.specs.Objects.{objects_of}
 use Rattle.context.specs.Tables.{Table}
 use Rattle.session.specs.Limits.{most_objects, most_implications}
@@ -8,8 +9,6 @@ use Rattle.machine.specs.Calls.{Words}
 use Rattle.table_layout.specs.Layout.{opened_of}
 use Rattle.complete_tables.specs.Complete.{complete_of}
 use Rattle.table_layout.specs.declared.Layout.{Layout}
-use Rattle.table_layout.specs.declared.Opened.{Opened}
-use Rattle.table_layout.specs.declared.Opened.TheVariants.{Found}
 use Rattle.transcript.specs.Output.{table_of}
 
 -- ---- places
@@ -33,6 +32,6 @@ pub record Holds (n objects : ℕ) (table : List ℕ) : Type 0 where
   pub in_table : objects * 2 ≤ length table
 
 -- the complete reading of the file, with the rows of the table in the words where it finds one
-pub record ReadComplete (file words : List ℕ) (r : Opened) : Type 0 where
+pub record ReadComplete (file words : List ℕ) (r : Result Layout Refusal) : Type 0 where
   pub answer : r ≡ complete_of file (opened_of file)
-  pub rows : (l : Layout) → r ≡ Found l → objects_of l.objects words ≡ table_of file l
+  pub rows : (l : Layout) → r ≡ Ok l → objects_of l.objects words ≡ table_of file l

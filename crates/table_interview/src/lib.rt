@@ -40,11 +40,11 @@ fn run_beats<W: Write>(
         let beaten = interview_beat::advance(table, objects, rows, list, interview, out, at);
         let end = beaten.at;
         handed = handed_output::hand_over(writer, out, at, end, handed);
-        if beaten.last {
+        let Some(next) = beaten.next else {
             return handed_output::Told { end, handed };
-        }
+        };
         at = end;
-        interview = beaten.interview;
+        interview = next;
     }
 }
 
@@ -62,12 +62,9 @@ fn interview_table<W: Write>(
     requires { Holds n objects table.now }
     ensures { Tells out before result (interviewed (tabled objects (shared table)) (opening n (lent (mutable rows) (mutable list)) [] [])) }
 {
-    let opened = session_opening::open(n, 0, rows, list, &table[..0]);
-    match opened {
-        session_opening::Opened::Refused(refusal) => handed_output::write_refusal(
-            refusal, out, writer, before,
-        ),
-        session_opening::Opened::Open(session) => {
+    match session_opening::open(n, 0, rows, list, &table[..0]) {
+        Err(refusal) => handed_output::write_refusal(refusal, out, writer, before),
+        Ok(session) => {
             let start = interview_replies::Interview {
                 n: session.n,
                 rows: session.rows,
@@ -94,18 +91,15 @@ pub fn hold<W: Write>(
     let mut table = [0u64; session::Session::ROWS * 2];
     let mut rows = [0u64; session::Session::ROWS * 2];
     let mut list = [0u64; session::Session::RULES * 2];
-    let row_words = closures::smaller(row_places, session::Session::ROWS) * 2;
-    let list_words = closures::smaller(rule_places, session::Session::RULES) * 2;
+    let row_words = row_places.min(session::Session::ROWS) * 2;
+    let list_words = rule_places.min(session::Session::RULES) * 2;
     let before = handed_output::Handed {
         bytes: 0,
         whole: true,
     };
-    let opened = table_marks::read_complete(file, &mut table);
-    match opened {
-        table_layout::Opened::Refused(refusal) => handed_output::write_refusal(
-            refusal, out, writer, before,
-        ),
-        table_layout::Opened::Found(layout) => interview_table(
+    match table_marks::read_complete(file, &mut table) {
+        Err(refusal) => handed_output::write_refusal(refusal, out, writer, before),
+        Ok(layout) => interview_table(
             &table,
             layout.objects,
             layout.attributes,

@@ -17,7 +17,7 @@ pub enum Kind {
     Marks(usize),
 }
 
-// The number of a missing line.
+// The number of a missing line, as `absent` of specs/ has it.
 pub fn absent_of(kind: Kind) -> u64
     ensures { result ≡ absent kind }
 {

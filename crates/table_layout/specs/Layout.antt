@@ -1,14 +1,11 @@
 -- Burmeister's layout (01, "The table file"): which lines a table file has, and what an opened table keeps. An object is 01's row, an
 -- attribute its property.
-use Rattle.std.specs.Prelude.{true, false, List, ◌++◌, ℕ, suc, length, replicate, ltb}
+use Rattle.std.specs.Prelude.{true, false, List, ◌++◌, ℕ, suc, length, replicate, ltb, Result, Ok, Err}
+use Rattle.session.specs.declared.Refusal.{Refusal}
 use Rattle.session.specs.Refusals.{refusal}
 use Rattle.table_kinds.specs.declared.Kind.{Kind}
 use Rattle.table_kinds.specs.declared.Kind.TheVariants.{Name, Marks}
-use Rattle.line_walk.specs.declared.Walk.{Walk}
-use Rattle.line_walk.specs.declared.Walk.TheVariants.{Failed, At}
 use Rattle.table_layout.specs.declared.Layout.{Layout}
-use Rattle.table_layout.specs.declared.Opened.{Opened}
-use Rattle.table_layout.specs.declared.Opened.TheVariants.{Found, Refused}
 use Rattle.line_walk.specs.Walk.{walk}
 use Rattle.table_header.specs.Header.{object_count, attribute_count, header}
 use Rattle.table_walk.specs.Walk.{place_of, then_rest}
@@ -47,14 +44,14 @@ layout_of file =
     (place_of (walk (to_marks file) file 0))
 
 -- what is found where the walk over the file ends, or fails
-abbrev pub opened_from : Layout → Walk → Opened
-opened_from l (At at) = Found l
-opened_from l (Failed r) = Refused r
+abbrev pub opened_from : Layout → Result ℕ Refusal → Result Layout Refusal
+opened_from l (Ok at) = Ok l
+opened_from l (Err r) = Err r
 
 -- 21 first, by the length alone; then the first line that is refused; else the table
-unfoldable pub opened_of : List ℕ → Opened
+unfoldable pub opened_of : List ℕ → Result Layout Refusal
 opened_of file =
     elim (ltb most_bytes (length file)) [
-      | true ↦ Refused (refusal 21 most_bytes)
+      | true ↦ Err (refusal 21 most_bytes)
       | false ↦ opened_from (layout_of file) (then_rest file (walk (kinds_to_end file) file 0))
     ]

@@ -3,14 +3,14 @@
 #![tactic(auto)]
 
 ghost use Rattle.std.specs.Prelude.{◌≡◌};
-ghost use Rattle.table_layout.specs.Layout.{opened_from, opened_of};
+ghost use Rattle.table_layout.specs.Layout.{opened_of};
 
-use line_walk::Walk;
+use session::Refusal;
 use table_kinds::Kind;
 
 // What an opened table keeps beside its file: the counts, and where the names of each kind and the marks begin.
 #[repr(C)]
-#[derive(Clone, Copy)]
+#[derive(Clone, Copy, PartialEq, Eq)]
 pub struct Layout {
     pub objects: usize,
     pub attributes: usize,
@@ -27,29 +27,13 @@ impl Layout {
 // The bytes of a buffer for a table file: one more than a file may have, so that a longer one is seen to be longer.
 pub const FILE_BYTES: usize = Layout::BYTES + 1;
 
-// What opening a table file finds.
-#[derive(Clone, Copy)]
-pub enum Opened {
-    Found(Layout),
-    Refused(session::Refusal),
-}
-
-// What a walk over all the lines gives: the layout, or the first line that is refused.
-fn opened_from(layout: Layout, walked: Walk) -> Opened
-    ensures { result ≡ opened_from layout walked }
-{
-    match walked {
-        Walk::At(_) => Opened::Found(layout),
-        Walk::Failed(refusal) => Opened::Refused(refusal),
-    }
-}
-
 // Opens a table file: what it keeps, or the first line that is refused.
-pub fn open(file: &[u8]) -> Opened
+#[tactic(auto, unfolding(crate::specs::Layout::opened_of))]
+pub fn open(file: &[u8]) -> Result<Layout, Refusal>
     ensures { result ≡ opened_of file.now }
 {
     if Layout::BYTES < file.len() {
-        return Opened::Refused(session::refuse(21, Layout::BYTES));
+        return Err(session::refuse(21, Layout::BYTES));
     }
     let objects = table_header::object_count(file);
     let attributes = table_header::attribute_count(file);
@@ -64,5 +48,6 @@ pub fn open(file: &[u8]) -> Opened
         attribute_names: table_walk::place_of(to_attribute_names),
         marks: table_walk::place_of(to_marks),
     };
-    opened_from(layout, table_walk::walk_rest(file, to_end))
+    table_walk::walk_rest(file, to_end)?;
+    Ok(layout)
 }

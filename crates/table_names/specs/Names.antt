@@ -1,5 +1,8 @@
 -- Names by number, as the file's own bytes (01, "The table file", and refusal 3). An object is 01's row, an attribute its property.
-use Rattle.std.specs.Prelude.{◌≡◌, Bool, true, false, List, ℕ, eqb, take, drop}
+use Rattle.std.specs.Prelude.{◌≡◌, Bool, true, false, List, [], ℕ, eqb, take, drop, Result, Ok, Err, IfErr}
+use Rattle.std.specs.Borrow.{Bor}
+use Rattle.session.specs.declared.Refusal.{Refusal}
+use Rattle.session.specs.Refusals.{refusal}
 use Rattle.table_layout.specs.declared.Layout.{Layout}
 use Rattle.name_spans.specs.declared.Span.{Span}
 use Rattle.name_spans.specs.Spans.{span_from, object_span, attribute_span}
@@ -23,6 +26,16 @@ attribute_name file l k = bytes_of file (attribute_span file l k)
 abbrev pub name_refusal : Span → ℕ
 name_refusal s = elim (eqb s.size 0) [ true ↦ 3 | false ↦ 0 ]
 
--- what is answered for the name that stands at a part of the file: its bytes, and the number of the refusal
-abbrev pub Named : Span → List ℕ → List ℕ → ℕ → Type 0
-Named s file name refused = (name ≡ bytes_of file s) × (refused ≡ name_refusal s)
+-- the bytes of an answer, none on a refusal, and the number of its refusal, 0 of a name
+abbrev pub bytes_answered : Result (Bor (List ℕ)) Refusal → List ℕ
+bytes_answered (Ok name) = name.now
+bytes_answered (Err r) = []
+
+abbrev pub number_answered : Result (Bor (List ℕ)) Refusal → ℕ
+number_answered (Ok name) = 0
+number_answered (Err r) = r.number
+
+-- what is answered for the name that stands at a part of the file: its bytes, and the number of the refusal, which is 3 at no place
+abbrev pub Named : Span → List ℕ → Result (Bor (List ℕ)) Refusal → Type 0
+Named s file answer =
+    (bytes_answered answer ≡ bytes_of file s) × (number_answered answer ≡ name_refusal s) × IfErr answer (λ r. r ≡ refusal 3 0)

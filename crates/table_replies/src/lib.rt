@@ -20,7 +20,7 @@ pub fn reply(
     ensures { Replies objects (shared table) interview (mutable rows) (mutable list) conclusion out at result }
 {
     let place = written_marks::first_refuting(table, objects, interview.current, conclusion);
-    let whole = closures::smaller(objects, table.len() / 2);
+    let whole = objects.min(table.len() / 2);
     if place < whole {
         let yes = table[place * 2];
         let no = table[place * 2 + 1];

@@ -31,12 +31,10 @@ fn put_row(out: &mut [u8], at: usize, n: usize, yes: u64, no: u64) -> usize
 pub fn put_rows(out: &mut [u8], at: usize, n: usize, rows: &[u64], used: usize) -> usize
     ensures { Puts out at result (closed (mark_lines n (objects_of (whole used rows.now) rows.now))) }
 {
-    let count = closures::smaller(used, rows.len() / 2);
+    let (whole, _) = rows.as_chunks::<2>();
     let mut to = at;
-    let mut i = 0;
-    while i < count {
-        to = put_row(out, to, n, rows[i * 2], rows[i * 2 + 1]);
-        i += 1;
+    for &[yes, no] in whole.iter().take(used) {
+        to = put_row(out, to, n, yes, no);
     }
     to
 }

@@ -8,11 +8,9 @@ ghost use Rattle.text.specs.Page.{Puts};
 ghost use Rattle.table_text.specs.Table.{text_of};
 ghost use Rattle.table_writing.specs.Writing.{RowsPass, NamesPass, Writes};
 
-use line_walk::Walk;
-use size_checks::Verdict;
+use session::Refusal;
 use table_kinds::Kind;
 use table_layout::Layout;
-use table_writing::Written;
 
 // How many bytes the text has.
 fn size_of_text(n: usize, used: usize, rows: &[u64], names: &[u8]) -> usize
@@ -35,40 +33,49 @@ fn put_table(n: usize, used: usize, rows: &[u64], names: &[u8], out: &mut [u8]) 
 }
 
 // Refusal 30, or the text.
-fn write_named(n: usize, used: usize, rows: &[u64], names: &[u8], out: &mut [u8]) -> Written
+fn write_named(
+    n: usize,
+    used: usize,
+    rows: &[u64],
+    names: &[u8],
+    out: &mut [u8],
+) -> Result<usize, Refusal>
     requires { RowsPass n used rows.now × NamesPass n used names.now }
     ensures { Writes n used (shared rows) names out result }
 {
     let size = size_of_text(n, used, rows, names);
-    if Layout::BYTES < size {
-        return Written::Refused(session::refuse(30, 0));
-    }
-    if out.len() < size {
-        return Written::Refused(session::refuse(30, 0));
+    if Layout::BYTES < size || out.len() < size {
+        return Err(session::refuse(30, 0));
     }
     put_table(n, used, rows, names, out);
-    Written::Bytes(size)
+    Ok(size)
 }
 
 // Refusal 26, and then 30, or the text.
-fn write_rows(n: usize, used: usize, rows: &[u64], names: &[u8], out: &mut [u8]) -> Written
+fn write_rows(
+    n: usize,
+    used: usize,
+    rows: &[u64],
+    names: &[u8],
+    out: &mut [u8],
+) -> Result<usize, Refusal>
     requires { RowsPass n used rows.now }
     ensures { Writes n used (shared rows) names out result }
 {
-    let walked = table_walk::walk_lines(names, Walk::At(0), Kind::Name, used + n);
-    match walked {
-        Walk::Failed(refusal) => Written::Refused(refusal),
-        Walk::At(_) => write_named(n, used, rows, names, out),
-    }
+    table_walk::walk_lines(names, Ok(0), Kind::Name, used + n)?;
+    write_named(n, used, rows, names, out)
 }
 
 // Writes n attributes, the rows in use of the row words, and the names lent as lines, as a table file: 1 to 5, 26, 30.
-pub fn write_table(n: usize, used: usize, rows: &[u64], names: &[u8], out: &mut [u8]) -> Written
+pub fn write_table(
+    n: usize,
+    used: usize,
+    rows: &[u64],
+    names: &[u8],
+    out: &mut [u8],
+) -> Result<usize, Refusal>
     ensures { Writes n used (shared rows) names out result }
 {
-    let checked = row_checks::check_rows(n, used, rows);
-    match checked {
-        Verdict::Refused(refusal) => Written::Refused(refusal),
-        Verdict::Passed => write_rows(n, used, rows, names, out),
-    }
+    row_checks::check_rows(n, used, rows)?;
+    write_rows(n, used, rows, names, out)
 }

@@ -1,11 +1,9 @@
 -- Writing a table file (02, request 2/13): what is answered, and what the lent output holds then. n attributes (01: properties), so many
 -- rows in use, the row words, and the names, lent as lines.
-use Rattle.std.specs.Prelude.{◌≡◌, Bool, true, false, ◌||◌, List, [], ◌∷◌, ◌++◌, ℕ, ◌+◌, length, drop, replicate, ltb}
+use Rattle.std.specs.Prelude.{◌≡◌, Bool, true, false, ◌||◌, List, [], ◌∷◌, ◌++◌, ℕ, ◌+◌, length, drop, replicate, ltb, Result, Ok, Err}
 use Rattle.std.proofs.Math.Option.{Option, none, some}
 use Rattle.session.specs.declared.Refusal.{Refusal}
 use Rattle.table_kinds.specs.declared.Kind.TheVariants.{Name}
-use Rattle.line_walk.specs.declared.Walk.{Walk}
-use Rattle.line_walk.specs.declared.Walk.TheVariants.{Failed, At}
 use Rattle.line_walk.specs.Walk.{walk}
 use Rattle.table_walk.specs.Walk.{place_of}
 use Rattle.table_layout.specs.Layout.{most_bytes}
@@ -14,18 +12,16 @@ use Rattle.machine.specs.Checks.{Check, check, first_failing}
 use Rattle.machine.specs.Calls.{Words}
 use Rattle.row_checks.specs.Rows.{row_checks}
 use Rattle.table_text.specs.Table.{text_of}
-use Rattle.table_writing.specs.declared.Written.{Written}
-use Rattle.table_writing.specs.declared.Written.TheVariants.{Bytes, Refused}
 pub mod Names
 pub mod Places
 
 -- the names needed, in order: the first that is missing, empty or too long, or where they end
-abbrev pub names_walk : ℕ → ℕ → List ℕ → Walk
+abbrev pub names_walk : ℕ → ℕ → List ℕ → Result ℕ Refusal
 names_walk n used names = walk (replicate (used + n) Name) names 0
 
-abbrev pub is_failed : Walk → Bool
-is_failed (At at) = false
-is_failed (Failed r) = true
+abbrev pub is_failed : Result ℕ Refusal → Bool
+is_failed (Ok at) = false
+is_failed (Err r) = true
 
 -- a text of so many bytes is longer than a table file, or than a lent output
 abbrev pub is_long : ℕ → ℕ → Bool
@@ -46,26 +42,26 @@ RowsPass n used words = first_failing (row_checks n used words) ≡ none
 abbrev pub NamesPass : ℕ → ℕ → List ℕ → Type 0
 NamesPass n used names = is_failed (names_walk n used names) ≡ false
 
--- the number of bytes, or the first check that fails
-abbrev pub written_by : Option Refusal → ℕ → Written
-written_by none size = Bytes size
-written_by (some r) size = Refused r
+-- what writing a table answers: how many bytes the text has, or the first check that fails
+abbrev pub written_by : Option Refusal → ℕ → Result ℕ Refusal
+written_by none size = Ok size
+written_by (some r) size = Err r
 
-abbrev pub writing : ℕ → ℕ → List ℕ → List ℕ → ℕ → Written
+abbrev pub writing : ℕ → ℕ → List ℕ → List ℕ → ℕ → Result ℕ Refusal
 writing n used words names room =
     written_by (first_failing (write_checks n used words names room)) (length (text_of n used words names))
 
 -- the output then: the text, and behind it the bytes that were there; on a refusal every byte that was there
-abbrev pub output_after : Written → List ℕ → List ℕ → List ℕ
-output_after (Bytes size) text out = text ++ drop size out
-output_after (Refused r) text out = out
+abbrev pub output_after : Result ℕ Refusal → List ℕ → List ℕ → List ℕ
+output_after (Ok size) text out = text ++ drop size out
+output_after (Err r) text out = out
 
 -- What writing promises of the answer and of the lent output.
-pub record WritesFrom (n used : ℕ) (words names out : List ℕ) (x : Written) (out' : List ℕ) : Type 0 where
+pub record WritesFrom (n used : ℕ) (words names out : List ℕ) (x : Result ℕ Refusal) (out' : List ℕ) : Type 0 where
   pub answer : x ≡ writing n used words names (length out)
   pub output : out' ≡ output_after x (text_of n used words names) out
 
 -- over the lent slices: row words, names, output
-abbrev pub Writes : ℕ → ℕ → Words → LentBytes → Buffer → Written → Type 0
+abbrev pub Writes : ℕ → ℕ → Words → LentBytes → Buffer → Result ℕ Refusal → Type 0
 Writes n used rows names out x =
     WritesFrom n used rows.entry.now names.entry.now out.entry.now x out.exit.now

@@ -23,10 +23,8 @@ pub fn put_bytes(out: &mut [u8], at: usize, bytes: &[u8]) -> usize
     ensures { Puts out at result bytes.now }
 {
     let mut to = at;
-    let mut i = 0;
-    while i < bytes.len() {
-        to = put_byte(out, to, bytes[i]);
-        i += 1;
+    for byte in bytes {
+        to = put_byte(out, to, *byte);
     }
     to
 }
@@ -35,10 +33,7 @@ pub fn put_bytes(out: &mut [u8], at: usize, bytes: &[u8]) -> usize
 fn mark_of(digit: u64) -> u8
     ensures { result ≡ mark_text digit }
 {
-    if digit == 0 {
-        return b'.';
-    }
-    b'X'
+    if digit == 0 { b'.' } else { b'X' }
 }
 
 // The set among the first n attributes, a byte for each.
@@ -47,11 +42,9 @@ pub fn put_set(out: &mut [u8], at: usize, n: usize, set: u64) -> usize
 {
     let mut to = at;
     let mut left = set;
-    let mut i = 0;
-    while i < n {
+    for _ in 0..n {
         to = put_byte(out, to, mark_of(left % 2));
         left /= 2;
-        i += 1;
     }
     to
 }

@@ -1,7 +1,8 @@
 -- The program's whole output, from the bytes of standard input to the bytes written (01, "The program"): it opens with no rows
 -- and no background, and replies from the table: no with the first file row that refutes, else yes.
 -- A refused reply has its Q line before the E line, and no L or END line is written then.
-use Rattle.std.specs.Prelude.{Bool, true, false, List, [], ◌++◌, ℕ, zero, suc, ◌+◌, ◌*◌, ◌/◌, ◌^◌, length, get_or, ltb}
+use Rattle.std.specs.Prelude.{Bool, true, false, List, [], ◌++◌, ℕ, zero, suc, ◌+◌, ◌*◌, ◌/◌, ◌^◌, length, get_or, ltb, Result, Ok, Err}
+use Rattle.session.specs.declared.Refusal.{Refusal}
 use Rattle.theory.specs.Implications.{Implication}
 use Rattle.context.specs.Objects.{Object, object, first_written}
 use Rattle.session.specs.Limits.{most_objects, most_implications}
@@ -11,8 +12,6 @@ use Rattle.table_layout.specs.Layout.{opened_of}
 use Rattle.table_rows.specs.Rows.{rows_from}
 use Rattle.complete_tables.specs.Complete.{complete_of}
 use Rattle.table_layout.specs.declared.Layout.{Layout}
-use Rattle.table_layout.specs.declared.Opened.{Opened}
-use Rattle.table_layout.specs.declared.Opened.TheVariants.{Found, Refused}
 use Rattle.output_lines.specs.Lines.{yes_line, no_line, list_lines}
 use Rattle.closing_lines.specs.Closing.{end_line, refusal_line}
 
@@ -88,9 +87,9 @@ interviewed table (rejected r) = refusal_line r
 abbrev pub table_of : List ℕ → Layout → List Object
 table_of file l = rows_from l.objects file l.marks
 
-abbrev pub written : Lent → List ℕ → Opened → List ℕ
-written lent file (Found l) = interviewed (table_of file l) (opening l.attributes lent [] [])
-written lent file (Refused r) = refusal_line r
+abbrev pub written : Lent → List ℕ → Result Layout Refusal → List ℕ
+written lent file (Ok l) = interviewed (table_of file l) (opening l.attributes lent [] [])
+written lent file (Err r) = refusal_line r
 
 -- the output where these places are lent
 unfoldable pub output_with : Lent → List ℕ → List ℕ

@@ -2,9 +2,9 @@
 // tables, whose rows count as having and lacking just what is written.
 #![tactic(auto)]
 
-ghost use Rattle.std.specs.Prelude.{◌≡◌, ◌*◌, ◌≤◌, min, length};
+ghost use Rattle.std.specs.Prelude.{◌≡◌, min};
 ghost use Rattle.context.specs.Objects.{object, objects_of};
-ghost use Rattle.written_marks.specs.Written.{cut_written, narrow_written, reach_written};
+ghost use Rattle.written_marks.specs.Written.{cut_written, reach_written};
 
 // What one object leaves of x: what it does not mark no, where it marks the set yes.
 fn cut_by(yes: u64, no: u64, set: u64, x: u64) -> u64
@@ -17,28 +17,11 @@ fn cut_by(yes: u64, no: u64, set: u64, x: u64) -> u64
     }
 }
 
-// What the first count objects leave of x.
-fn narrow_by(rows: &[u64], count: usize, set: u64, x: u64) -> u64
-    requires { count * 2 ≤ length rows.now }
-    ensures { result ≡ narrow_written set (objects_of count rows.now) x }
-{
-    let mut left = x;
-    let mut i = 0;
-    while i < count {
-        left = cut_by(rows[i * 2], rows[i * 2 + 1], set, left);
-        i += 1;
-    }
-    left
-}
-
 // The reach by written marks of a set among the first n attributes (64 at the most), over the first count objects.
 pub fn reach_of(n: usize, rows: &[u64], count: usize, set: u64) -> u64
     ensures { result ≡ reach_written (min n 64) (objects_of count rows.now) set }
 {
-    narrow_by(
-        rows,
-        closures::smaller(count, rows.len() / 2),
-        set,
-        set_words::full_set(n),
-    )
+    word_pairs::fold_pairs(rows, count, set_words::full_set(n), |yes, no, left| {
+        cut_by(yes, no, set, left)
+    })
 }

@@ -1,6 +1,8 @@
 -- The program's whole output by written marks: definition by definition as transcript's `Output`, with the machine read by written marks
 -- for the plain machine. So the output was before request 5/13 of document 02; `Unchanged` says that it still is.
-use Rattle.std.specs.Prelude.{true, false, List, [], ◌++◌, ℕ, zero, suc, ◌+◌, length, get_or, ltb}
+use Rattle.std.specs.Prelude.{true, false, List, [], ◌++◌, ℕ, zero, suc, ◌+◌, length, get_or, ltb, Result, Ok, Err}
+use Rattle.session.specs.declared.Refusal.{Refusal}
+use Rattle.table_layout.specs.declared.Layout.{Layout}
 use Rattle.theory.specs.Implications.{Implication}
 use Rattle.context.specs.Objects.{Object, object, first_written}
 use Rattle.machine.specs.Checks.{Lent, State}
@@ -8,8 +10,6 @@ use Rattle.machine.specs.Machine.{step, accept, reject, Answer, finished, moved,
 use Rattle.written_machine.specs.Reading.{written_perform}
 use Rattle.table_layout.specs.Layout.{opened_of}
 use Rattle.complete_tables.specs.Complete.{complete_of}
-use Rattle.table_layout.specs.declared.Opened.{Opened}
-use Rattle.table_layout.specs.declared.Opened.TheVariants.{Found, Refused}
 use Rattle.output_lines.specs.Lines.{yes_line, no_line}
 use Rattle.closing_lines.specs.Closing.{refusal_line}
 use Rattle.transcript.specs.Output.{Beat, more, last, replied, closing, enough, table_of, places}
@@ -53,9 +53,9 @@ abbrev pub written_interviewed : List Object → Opening → List ℕ
 written_interviewed table (opened s) = written_beats (enough s) table s 0
 written_interviewed table (rejected r) = refusal_line r
 
-abbrev pub written_from : Lent → List ℕ → Opened → List ℕ
-written_from lent file (Found l) = written_interviewed (table_of file l) (opening l.attributes lent [] [])
-written_from lent file (Refused r) = refusal_line r
+abbrev pub written_from : Lent → List ℕ → Result Layout Refusal → List ℕ
+written_from lent file (Ok l) = written_interviewed (table_of file l) (opening l.attributes lent [] [])
+written_from lent file (Err r) = refusal_line r
 
 -- the output where these places are lent
 unfoldable pub written_output_with : Lent → List ℕ → List ℕ

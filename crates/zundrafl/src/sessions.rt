@@ -20,12 +20,7 @@ pub extern "C" fn zundrafl_open_session(
 )
     ensures { OpensOn n used (mutable session) (shared rows) (shared list) (shared background) answer }
 {
-    let held = *session;
-    let turn = coded_opening::open(held, n, used, rows, list, background);
-    if turn.changed {
-        *session = turn.session;
-    }
-    *answer = turn.answer;
+    *answer = coded_opening::open(*session, n, used, rows, list, background).store(session);
 }
 
 // Finished, moved, or the standing question.
@@ -39,12 +34,7 @@ pub extern "C" fn zundrafl_step(
 )
     ensures { AnswersOn stepping (mutable session) (shared rows) (shared list) (shared background) answer }
 {
-    let held = *session;
-    let turn = coded_calls::step(held, rows, list, background);
-    if turn.changed {
-        *session = turn.session;
-    }
-    *answer = turn.answer;
+    *answer = coded_calls::step(*session, rows, list, background).store(session);
 }
 
 // 01's yes: the standing question becomes the next rule of the list.
@@ -58,12 +48,7 @@ pub extern "C" fn zundrafl_accept(
 )
     ensures { AnswersOn accepting (mutable session) (shared rows) (mutable list) (shared background) answer }
 {
-    let held = *session;
-    let turn = coded_calls::accept(held, rows, list, background);
-    if turn.changed {
-        *session = turn.session;
-    }
-    *answer = turn.answer;
+    *answer = coded_calls::accept(*session, rows, list, background).store(session);
 }
 
 // 01's no: the offered row becomes the next row.
@@ -79,12 +64,7 @@ pub extern "C" fn zundrafl_reject(
 )
     ensures { AnswersOn (rejecting (object yes no)) (mutable session) (mutable rows) (shared list) (shared background) answer }
 {
-    let held = *session;
-    let turn = coded_calls::reject(held, rows, list, background, yes, no);
-    if turn.changed {
-        *session = turn.session;
-    }
-    *answer = turn.answer;
+    *answer = coded_calls::reject(*session, rows, list, background, yes, no).store(session);
 }
 
 // Whether an implication follows from those in force.
@@ -148,12 +128,7 @@ pub extern "C" fn zundrafl_file_row(
 )
     ensures { AnswersOn (file (object yes no)) (mutable session) (mutable rows) (shared list) (shared background) answer }
 {
-    let held = *session;
-    let turn = coded_calls::file_row(held, rows, list, background, yes, no);
-    if turn.changed {
-        *session = turn.session;
-    }
-    *answer = turn.answer;
+    *answer = coded_calls::file_row(*session, rows, list, background, yes, no).store(session);
 }
 
 // 02's filling: the marks of the offered row are added to the row of this number. The record stays as it is.
@@ -186,12 +161,9 @@ pub extern "C" fn zundrafl_replay(
 )
     ensures { ReplaysOn (mutable session) (mutable rows) (mutable list) (shared background) (shared calls) (mutable answers) answer }
 {
-    let held = *session;
-    let turn = coded_logs::replay_coded(held, rows, list, background, calls, answers);
-    if turn.changed {
-        *session = turn.session;
-    }
-    *answer = turn.answer;
+    *answer = coded_logs::replay_coded(*session, rows, list, background, calls, answers).store(
+        session,
+    );
 }
 
 // Opens a session and makes each call of a log: a saved interview taken up again.
@@ -209,12 +181,7 @@ pub extern "C" fn zundrafl_open_and_replay(
 )
     ensures { TakesUpOn n used (mutable session) (mutable rows) (mutable list) (shared background) (shared calls) (mutable answers) answer }
 {
-    let held = *session;
-    let turn = saved_interview::open_and_replay(
-        held, n, used, rows, list, background, calls, answers,
-    );
-    if turn.changed {
-        *session = turn.session;
-    }
-    *answer = turn.answer;
+    *answer = saved_interview::open_and_replay(
+        *session, n, used, rows, list, background, calls, answers,
+    ).store(session);
 }

@@ -22,8 +22,7 @@ use Rattle.session.specs.Records.{same_session}
 use Rattle.session.proofs.Records.Laws.{same-equal}
 use Rattle.answer_words.specs.declared.Answer.{Answer as Coded}
 use Rattle.logged_calls.specs.Kinds.{ReplaysFrom}
-use Rattle.call_logs.specs.Replay.{replay_code, replay_after, PastKept, LogWords, code_of_log, ReplaySays}
-use Rattle.call_logs.specs.declared.Log.{Log}
+use Rattle.call_logs.specs.Replay.{replay_code, replay_after, PastKept, LogWords, Replayed, code_of_log, left_by, ReplaySays}
 
 -- ---- one call
 
@@ -138,7 +137,9 @@ replays-kept s after changed e = go changed (same_session s after) refl e
 
 -- so that what a replay says of the record after it holds of the one that is stored
 pub replayed-kept : (background calls : List ℕ) (s : Session) (before : LogWords) (after : Session) (words : LogWords) (x : Coded) (changed : Bool)
-    → ((log : Log) × (x ≡ code_of_log log) × ReplaySays background calls s before after words log) × (changed ≡ not (same_session s after))
-    → (log : Log) × (x ≡ code_of_log log) × ReplaySays background calls s before (chosen changed after s) words log
+    → ((log : Replayed) × (x ≡ code_of_log log) × (after ≡ left_by log s) × ReplaySays background calls s before words log)
+    × (changed ≡ not (same_session s after))
+    → (log : Replayed) × (x ≡ code_of_log log) × (chosen changed after s ≡ left_by log s) × ReplaySays background calls s before words log
 replayed-kept background calls s before after words x changed h =
-    subst (λ z. (log : Log) × (x ≡ code_of_log log) × ReplaySays background calls s before z words log) (sym (replays-kept s after changed h.1)) h.0
+    subst (λ z. (log : Replayed) × (x ≡ code_of_log log) × (z ≡ left_by log s) × ReplaySays background calls s before words log)
+    (sym (replays-kept s after changed h.1)) h.0

@@ -1,13 +1,12 @@
 -- The answer for a name by its cases (`no_name`, `name-found`); and an opening that found no layout leaves the one that it was given, so that
 -- it is stored only where it changed (`table_kept`).
-use Rattle.std.specs.Prelude.{◌≡◌, refl, Bool, true, false}
+use Rattle.std.specs.Prelude.{◌≡◌, refl, Bool, true, false, Result, Ok, Err}
 use Rattle.std.proofs.Common.{sym, ◌∙◌, true≢false, eq-eqb, ne_eqb}
+use Rattle.session.specs.declared.Refusal.{Refusal}
 use Rattle.session.specs.Choice.{chosen}
 use Rattle.answer_words.specs.declared.Answer.{Answer as Coded}
 use Rattle.answer_words.specs.Codes.{coded}
 use Rattle.table_layout.specs.declared.Layout.{Layout}
-use Rattle.table_layout.specs.declared.Opened.{Opened}
-use Rattle.table_layout.specs.declared.Opened.TheVariants.{Found, Refused}
 use Rattle.name_spans.specs.declared.Span.{Span}
 use Rattle.coded_tables.specs.Tables.{layout_after, is_found, OpensTable, FindsTable, code_of_span}
 
@@ -20,11 +19,11 @@ module _ (s : Span) where
 
 -- ---- the layout after an opening
 
-left_alone : (o : Opened) (before : Layout) → is_found o ≡ false → before ≡ layout_after o before
-left_alone (Found l) before e = absurd (true≢false e)
-left_alone (Refused r) before e = refl
+left_alone : (o : Result Layout Refusal) (before : Layout) → is_found o ≡ false → before ≡ layout_after o before
+left_alone (Ok l) before e = absurd (true≢false e)
+left_alone (Err r) before e = refl
 
-pub table_kept : {o : Opened} {before after : Layout} {x : Coded} {changed : Bool} → FindsTable o before x after changed
+pub table_kept : {o : Result Layout Refusal} {before after : Layout} {x : Coded} {changed : Bool} → FindsTable o before x after changed
     → OpensTable o before x (chosen changed after before)
 table_kept {o} {before} {after} {x} {changed} f = go changed refl
   where

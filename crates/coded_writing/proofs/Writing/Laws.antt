@@ -1,23 +1,21 @@
 -- The three words of a writer's answer say which answer it was (`codes-tell`), and just those below 100 are refusals (`refusal-code`,
 -- `small-code`).
-use Rattle.std.specs.Prelude.{◌≡◌, refl, ◌⊎◌, List, ℕ, ◌≤◌, ◌<◌}
+use Rattle.std.specs.Prelude.{◌≡◌, refl, ◌⊎◌, List, ℕ, ◌≤◌, ◌<◌, Result, Ok, Err}
 use Rattle.std.proofs.Common.{ap, inl, inr, arith}
 use Rattle.session.specs.declared.Refusal.{Refusal}
 use Rattle.session.specs.Refusals.{refusal}
 use Rattle.answer_words.specs.declared.Answer.{Answer as Coded}
-use Rattle.table_writing.specs.declared.Written.{Written}
-use Rattle.table_writing.specs.declared.Written.TheVariants.{Bytes, Refused}
 use Rattle.table_writing.specs.Writing.{writing}
 use Rattle.table_writing.proofs.Writing.Places.Laws.{right-place}
 use Rattle.coded_writing.specs.Writing.{code_of_written}
 
 -- a refusal's number is below 100
-abbrev Told : Written → Type 0
-Told (Bytes size) = Unit {0}
-Told (Refused r) = r.number < 100
+abbrev Told : Result ℕ Refusal → Type 0
+Told (Ok size) = Unit {0}
+Told (Err r) = r.number < 100
 
 module _ (n used : ℕ) (words names : List ℕ) (room : ℕ) where
-  pub refusal-code : (r : Refusal) → writing n used words names room ≡ Refused r → (code_of_written (Refused r)).code < 100
+  pub refusal-code : (r : Refusal) → writing n used words names room ≡ Err r → (code_of_written (Err r)).code < 100
   refusal-code r e = go (right-place n used words names room r e).number
     where
       go : ((0 < r.number) × (r.number ≤ 5)) ⊎ ((r.number ≡ 26) ⊎ (r.number ≡ 30)) → r.number < 100
@@ -25,19 +23,19 @@ module _ (n used : ℕ) (words names : List ℕ) (room : ℕ) where
       go (inr (inl h)) = omega arith
       go (inr (inr h)) = omega arith
 
-  told : (w : Written) → writing n used words names room ≡ w → Told w
-  told (Bytes size) e = tt
-  told (Refused r) e = refusal-code r e
+  told : (w : Result ℕ Refusal) → writing n used words names room ≡ w → Told w
+  told (Ok size) e = tt
+  told (Err r) e = refusal-code r e
 
-pub small-code : (w : Written) → (code_of_written w).code < 100 → (r : Refusal) × (w ≡ Refused r)
-small-code (Bytes size) h = absurd (omega arith)
-small-code (Refused r) h = (r, refl)
+pub small-code : (w : Result ℕ Refusal) → (code_of_written w).code < 100 → (r : Refusal) × (w ≡ Err r)
+small-code (Ok size) h = absurd (omega arith)
+small-code (Err r) h = (r, refl)
 
-same_words : (w v : Written) → Told w → Told v → code_of_written w ≡ code_of_written v → w ≡ v
-same_words (Bytes size) (Bytes size') s t e = ap (λ (x : Coded). Bytes x.first) e
-same_words (Bytes size) (Refused r) s t e = absurd (omega (arith, ap (λ (x : Coded). x.code) e))
-same_words (Refused r) (Bytes size) s t e = absurd (omega (arith, ap (λ (x : Coded). x.code) e))
-same_words (Refused r) (Refused r') s t e = ap (λ (x : Coded). Refused (refusal x.code x.first)) e
+same_words : (w v : Result ℕ Refusal) → Told w → Told v → code_of_written w ≡ code_of_written v → w ≡ v
+same_words (Ok size) (Ok size') s t e = ap (λ (x : Coded). Ok x.first) e
+same_words (Ok size) (Err r) s t e = absurd (omega (arith, ap (λ (x : Coded). x.code) e))
+same_words (Err r) (Ok size) s t e = absurd (omega (arith, ap (λ (x : Coded). x.code) e))
+same_words (Err r) (Err r') s t e = ap (λ (x : Coded). Err (refusal x.code x.first)) e
 
 pub codes-tell : (n used : ℕ) (words names : List ℕ) (room : ℕ) (m used' : ℕ) (words' names' : List ℕ) (room' : ℕ)
     → code_of_written (writing n used words names room) ≡ code_of_written (writing m used' words' names' room')

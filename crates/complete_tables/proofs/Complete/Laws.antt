@@ -1,18 +1,17 @@
 -- Computed cases (`cases`). The rows of a file that the complete opening accepts form a complete table: no mark is unknown, and none is marked both ways
 -- (`complete-table`). It finds the layout that reading finds (`complete-layout`).
-use Rattle.std.specs.Prelude.{◌≡◌, refl, Bool, true, false, not, ◌||◌, List, [], ◌∷◌, ◌++◌, ℕ, zero, suc, ◌<◌, ◌+◌, ◌*◌, ◌/◌, ◌%◌, min, max, length, replicate}
+use Rattle.std.specs.Prelude.{◌≡◌, refl, Bool, true, false, not, ◌||◌, List, [], ◌∷◌, ◌++◌, ℕ, zero, suc, ◌<◌, ◌+◌, ◌*◌, ◌/◌, ◌%◌, min, max, length, replicate, Result, Ok, Err}
 use Rattle.std.proofs.Common.{sym, ◌∙◌, ap, subst, arith, eqb-true, pow-suc, pow_pos}
 use Rattle.std.proofs.Math.Bool.{and-eq-true_iff}
 use Rattle.table_kinds.specs.declared.Kind.TheVariants.{Marks}
 use Rattle.line_faults.specs.Faults.{fault}
-use Rattle.table_layout.specs.declared.Opened.TheVariants.{Refused, Found}
+use Rattle.session.specs.declared.Refusal.{Refusal}
 use Rattle.session.specs.Refusals.{refusal}
 use Rattle.table_lines.specs.Lines.{line_of, bytes_at, after}
 use Rattle.table_layout.specs.Layout.{opened_of, layout_of}
 use Rattle.line_walk.specs.Walk.{line_fault, walk}
 use Rattle.table_walk.specs.Walk.{rest, Passes}
 use Rattle.table_layout.specs.declared.Layout.{Layout}
-use Rattle.table_layout.specs.declared.Opened.{Opened}
 use Rattle.table_walk.proofs.Walk.Passed.{line-there, passes-cons}
 use Rattle.table_rows.specs.Rows.{bit_of, word_of, row_of, rows_from}
 use Rattle.std.specs.Int.Bits.{bit_and, bit_or, and_step, or_step}
@@ -34,7 +33,7 @@ abbrev unknown : List ℕ
 unknown = 66 ∷ 10 ∷ 10 ∷ 50 ∷ 10 ∷ 49 ∷ 10 ∷ 10 ∷ 97 ∷ 10 ∷ 98 ∷ 10 ∷ 112 ∷ 10 ∷ 88 ∷ 10 ∷ 63 ∷ []
 
 -- computed: 29 where the line begins that has an unknown mark; 28 comes before it
-cases : (opened_complete unknown ≡ Refused (refusal 29 16)) × (opened_complete (unknown ++ (10 ∷ 88 ∷ [])) ≡ Refused (refusal 28 18))
+cases : (opened_complete unknown ≡ Err (refusal 29 16)) × (opened_complete (unknown ++ (10 ∷ 88 ∷ [])) ≡ Err (refusal 28 18))
 unfolding complete_from opened_of layout_of walk rest line_fault fault is_count count_of decimal_from everywhere line_of
 cases = (refl, refl)
 
@@ -45,7 +44,7 @@ module _ (n : ℕ) (l : Layout) (file : List ℕ) (at : ℕ) where
   unfolding complete_from
   complete-on e = rw (complete_from, e)
 
-  pub complete-stop : everywhere is_known (bytes_at file at) ≡ false → complete_from (suc n) l file at ≡ Refused (refusal 29 at)
+  pub complete-stop : everywhere is_known (bytes_at file at) ≡ false → complete_from (suc n) l file at ≡ Err (refusal 29 at)
   unfolding complete_from
   complete-stop e = rw (complete_from, e)
 
@@ -113,25 +112,25 @@ complete-row n bs e m k =
 -- ---- the rows
 
 -- the first line, and the lines behind it
-complete-cons : (k : ℕ) (l l' : Layout) (file : List ℕ) (at : ℕ) → complete_from (suc k) l file at ≡ Found l'
-    → (everywhere is_known (bytes_at file at) ≡ true) × (complete_from k l file (after file at) ≡ Found l')
+complete-cons : (k : ℕ) (l l' : Layout) (file : List ℕ) (at : ℕ) → complete_from (suc k) l file at ≡ Ok l'
+    → (everywhere is_known (bytes_at file at) ≡ true) × (complete_from k l file (after file at) ≡ Ok l')
 complete-cons k l l' file at e = go (everywhere is_known (bytes_at file at)) refl
   where
     go : (t : Bool) → everywhere is_known (bytes_at file at) ≡ t
-        → (everywhere is_known (bytes_at file at) ≡ true) × (complete_from k l file (after file at) ≡ Found l')
+        → (everywhere is_known (bytes_at file at) ≡ true) × (complete_from k l file (after file at) ≡ Ok l')
     go true q = (q, sym (complete-on k l file at q) ∙ e)
     go false q =
-        let f : Refused (refusal 29 at) ≡ Found l' = sym (complete-stop k l file at q) ∙ e in
+        let f : Err (refusal 29 at) ≡ Ok l' = sym (complete-stop k l file at q) ∙ e in
         let z : ◌≡◌ {A = ℕ} 0 1 = cc in
         absurd (omega arith)
 
-complete-same : (k : ℕ) (l l' : Layout) (file : List ℕ) (at : ℕ) → complete_from k l file at ≡ Found l' → l ≡ l'
+complete-same : (k : ℕ) (l l' : Layout) (file : List ℕ) (at : ℕ) → complete_from k l file at ≡ Ok l' → l ≡ l'
 unfolding complete_from
 complete-same zero l l' file at e = cc
 complete-same (suc k) l l' file at e = complete-same k l l' file (after file at) (complete-cons k l l' file at e).1
 
 complete-rows : (k n : ℕ) (l l' : Layout) (file : List ℕ) (at : ℕ) → Passes (walk (replicate k (Marks n)) file at)
-    → complete_from k l file at ≡ Found l' → Table n (rows_from k file at)
+    → complete_from k l file at ≡ Ok l' → Table n (rows_from k file at)
 unfolding rows_from
 complete-rows zero n l l' file at p e = all_nil _
 complete-rows (suc k) n l l' file at p e =
@@ -140,15 +139,15 @@ complete-rows (suc k) n l l' file at p e =
     let m = marks_fine n (bytes_at file at) (line-there file (Marks n) at x.0).1 in
     all_cons (complete-row n (bytes_at file at) m.0 m.1 y.0) (complete-rows k n l l' file (after file at) x.1 y.1)
 
-pub complete-layout : (file : List ℕ) (l : Layout) → complete_of file (opened_of file) ≡ Found l → opened_of file ≡ Found l
+pub complete-layout : (file : List ℕ) (l : Layout) → complete_of file (opened_of file) ≡ Ok l → opened_of file ≡ Ok l
 complete-layout file l = go (opened_of file)
   where
-    go : (o : Opened) → complete_of file o ≡ Found l → o ≡ Found l
-    go (Found l') e = ap Found (complete-same l'.objects l' l file l'.marks e)
-    go (Refused r) e = e
+    go : (o : Result Layout Refusal) → complete_of file o ≡ Ok l → o ≡ Ok l
+    go (Ok l') e = ap Ok (complete-same l'.objects l' l file l'.marks e)
+    go (Err r) e = e
 
-pub complete-table : (file : List ℕ) (l : Layout) → complete_of file (opened_of file) ≡ Found l
+pub complete-table : (file : List ℕ) (l : Layout) → complete_of file (opened_of file) ≡ Ok l
     → Table l.attributes (rows_from l.objects file l.marks)
 complete-table file l e =
     let o = complete-layout file l e in
-    complete-rows l.objects l.attributes l l file l.marks (table-marks file l o).2 (subst (λ x. complete_of file x ≡ Found l) o e)
+    complete-rows l.objects l.attributes l l file l.marks (table-marks file l o).2 (subst (λ x. complete_of file x ≡ Ok l) o e)

@@ -11,7 +11,7 @@ use Rattle.explore_answers.proofs.answer.Goals as goal
 pub returns : goal.returns
 returns g c =
     let a = c.args in
-    let k = c.smaller-end in
+    let k = c.min-end in
     let w = c.hold in
     input-answered output input_most output-first a.file.now a.out.now w.new.out a.size w.result c.told-file
     (subst (λ bs. WritesIn a.out.now w.new.out w.result (output bs))

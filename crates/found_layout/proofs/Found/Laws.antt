@@ -1,14 +1,13 @@
 -- Reading a file finds a layout just where the file opens as a table with that layout (`finds-table`); an opened table is then opened as
 -- its file is (`as-found`), and is refused with 3 otherwise (`as-other`).
-use Rattle.std.specs.Prelude.{◌≡◌, refl, Bool, true, false, List, [], ◌∷◌, ℕ, eqb, ◌↔◌, get_or}
+use Rattle.std.specs.Prelude.{◌≡◌, refl, Bool, true, false, List, [], ◌∷◌, ℕ, eqb, ◌↔◌, get_or, Result, Ok, Err}
 use Rattle.std.proofs.Common.{ap, ap₂, arith, eq-eqb, eqb-true}
 use Rattle.std.proofs.Math.Bool.{and-eq-true_iff}
 use Rattle.std.proofs.lemmas.Bool.{false≢true}
-use Rattle.table_layout.specs.declared.Opened.TheVariants.{Refused, Found}
+use Rattle.session.specs.declared.Refusal.{Refusal}
 use Rattle.session.specs.Refusals.{refusal}
 use Rattle.table_layout.specs.Layout.{layout, opened_of}
 use Rattle.table_layout.specs.declared.Layout.{Layout}
-use Rattle.table_layout.specs.declared.Opened.{Opened}
 use Rattle.found_layout.specs.Found.{fields_of, same_numbers, equal_layouts, found_in, finds, opened_as}
 
 same-numbers : (ms ns : List ℕ) → same_numbers ms ns ≡ true → ms ≡ ns
@@ -31,31 +30,31 @@ same_layout a b e = ap from (same-numbers (fields_of a) (fields_of b) e)
     from ns = layout (get_or ns 0 0) (get_or ns 1 0) (get_or ns 2 0) (get_or ns 3 0) (get_or ns 4 0)
 
 module _ (file : List ℕ) (l : Layout) where
-  pub finds-table : (finds file l ≡ true) ↔ (opened_of file ≡ Found l)
+  pub finds-table : (finds file l ≡ true) ↔ (opened_of file ≡ Ok l)
   finds-table = (found (opened_of file), λ e. rw e (numbers-same (fields_of l)))
     where
-      found : (o : Opened) → found_in o l ≡ true → o ≡ Found l
-      found (Found x) e = rw (same_layout x l e)
-      found (Refused r) e = absurd (false≢true e)
+      found : (o : Result Layout Refusal) → found_in o l ≡ true → o ≡ Ok l
+      found (Ok x) e = rw (same_layout x l e)
+      found (Err r) e = absurd (false≢true e)
 
 -- ---- an opened table
 
 module _ (l : Layout) where
-  pub as_same : (x : Layout) → equal_layouts x l ≡ true → opened_as l (Found x) ≡ Found x
+  pub as_same : (x : Layout) → equal_layouts x l ≡ true → opened_as l (Ok x) ≡ Ok x
   as_same x e = rw (opened_as, e)
 
-  pub as-other : (x : Layout) → equal_layouts x l ≡ false → opened_as l (Found x) ≡ Refused (refusal 3 0)
+  pub as-other : (x : Layout) → equal_layouts x l ≡ false → opened_as l (Ok x) ≡ Err (refusal 3 0)
   as-other x e = rw (opened_as, e)
 
   -- a layout found is the file's
-  pub as-layout : (o : Opened) (x : Layout) → opened_as l o ≡ Found x → o ≡ Found x
-  as-layout (Found y) x e = go (equal_layouts y l) e
+  pub as-layout : (o : Result Layout Refusal) (x : Layout) → opened_as l o ≡ Ok x → o ≡ Ok x
+  as-layout (Ok y) x e = go (equal_layouts y l) e
     where
-      go : (b : Bool) → elim b as (λ z. Opened) [ true ↦ Found y | false ↦ Refused (refusal 3 0) ] ≡ Found x → Found y ≡ Found x
+      go : (b : Bool) → elim b as (λ z. Result Layout Refusal) [ true ↦ Ok y | false ↦ Err (refusal 3 0) ] ≡ Ok x → ◌≡◌ {A = Result Layout Refusal} (Ok y) (Ok x)
       go true f = f
       go false f = let n : ◌≡◌ {A = ℕ} 0 1 = cc in absurd (omega arith)
-  as-layout (Refused r) x e = e
+  as-layout (Err r) x e = e
 
-  pub as-found : (o : Opened) → found_in o l ≡ true → opened_as l o ≡ o
-  as-found (Found x) e = as_same x e
-  as-found (Refused r) e = refl
+  pub as-found : (o : Result Layout Refusal) → found_in o l ≡ true → opened_as l o ≡ o
+  as-found (Ok x) e = as_same x e
+  as-found (Err r) e = refl

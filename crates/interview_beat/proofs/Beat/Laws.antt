@@ -1,5 +1,5 @@
 -- The beat by its cases, as the code takes them.
-use Rattle.std.specs.Prelude.{◌≡◌, true, false, ℕ, ◌+◌, ◌*◌, ◌/◌, ◌≤◌, min, length}
+use Rattle.std.specs.Prelude.{◌≡◌, Some, None, ℕ, ◌*◌, ◌/◌, ◌≤◌, min, length}
 use Rattle.std.proofs.Math.Path.{refl, ap}
 use Rattle.std.proofs.Common.{sym, ◌∙◌, arith}
 use mathlib.Core.List.{List, [], ◌++◌}
@@ -16,7 +16,7 @@ use Rattle.written_machine.specs.Reading.{written_reach, written_question}
 use Rattle.text.specs.Page.{Page, text}
 use Rattle.output_lines.specs.Lines.{whole_rules, list_lines}
 use Rattle.closing_lines.specs.Closing.{end_line}
-use Rattle.transcript.specs.Output.{last, closing}
+use Rattle.transcript.specs.Output.{closing}
 use Rattle.transcript.specs.Core.{counted, core_reply, core_beat}
 use Rattle.interview_replies.specs.declared.Interview.{Interview}
 use Rattle.interview_replies.specs.Holding.{holding, Leaves}
@@ -45,7 +45,7 @@ module _ (i : Interview) (rows list : List ℕ) where
     whole = all ∙ ap full limit
 
     pub beat-end : (end : ℕ) {p p' : Page} → i.current ≡ m → p' ≡ text p (closing (holding i rows list) i.changes)
-        → Leaves (core_beat (objects_of objects table) (holding i rows list) i.changes) (record { interview = i; at = end; last = true }) rows list p p'
+        → Leaves (core_beat (objects_of objects table) (holding i rows list) i.changes) (record { next = None; at = end }) rows list p p'
     unfolding core_beat
     beat-end end {p} {p'} e t = leaves_last _ _ i end rows list p p' t (rw (core_beat, eq-eqb _ _ (e ∙ whole)))
 
@@ -71,7 +71,7 @@ module _ (i : Interview) (rows list : List ℕ) where
       pub beat-move : (at : ℕ) (p : Page) (current changes : ℕ) → r ≡ i.current
           → current ≡ next (force (holding i rows list)) (min i.n 64) i.current → changes ≡ counted i.changes
           → Leaves (core_beat (objects_of objects table) (holding i rows list) i.changes)
-          (record { interview = record { n = i.n; rows = i.rows; rules = i.rules; current = current; changes = changes }; at = at; last = false })
+          (record { next = Some (record { n = i.n; rows = i.rows; rules = i.rules; current = current; changes = changes }); at = at })
           rows list p p
       unfolding core_beat text
       beat-move at p current changes e n k =

@@ -1,5 +1,5 @@
 -- What a beat leaves, by how it goes on; no and yes by their cases, as the code takes them.
-use Rattle.std.specs.Prelude.{◌≡◌, true, false, ℕ, ◌+◌, ◌*◌, ◌/◌, ◌<◌, ◌≤◌, min}
+use Rattle.std.specs.Prelude.{◌≡◌, Some, None, ℕ, ◌+◌, ◌*◌, ◌/◌, ◌<◌, ◌≤◌, min}
 use Rattle.std.proofs.Math.Path.{refl}
 use Rattle.std.proofs.Common.{sym, ap, ◌∙◌, subst, arith}
 use mathlib.Core.List.{List, []}
@@ -28,11 +28,11 @@ use Rattle.interview_replies.specs.Holding.{holding, line_written, Leaves}
 -- ---- what is left, by how the beat goes on
 
 module _ (b : Beat) (line : List ℕ) (i : Interview) (at : ℕ) (rows list : List ℕ) (p p' : Page) (t : p' ≡ text p line) where
-  pub leaves_last : b ≡ last line → Leaves b (record { interview = i; at = at; last = true }) rows list p p'
+  pub leaves_last : b ≡ last line → Leaves b (record { next = None; at = at }) rows list p p'
   leaves_last e = record { state = ap (λ x. last (line_written x)) e ∙ sym e; line = t ∙ sym (ap (λ x. text p (line_written x)) e) }
 
   pub leaves-more : (s : State) (changes : ℕ) → holding i rows list ≡ s → i.changes ≡ changes → b ≡ more line s changes
-      → Leaves b (record { interview = i; at = at; last = false }) rows list p p'
+      → Leaves b (record { next = Some i; at = at }) rows list p p'
   leaves-more s changes f g e = record {
     state = ap (λ x. more (line_written b) x i.changes) f ∙ ap (λ x. more (line_written b) s x) g
         ∙ ap (λ x. more (line_written x) s changes) e ∙ sym e;
@@ -51,7 +51,7 @@ module _ (i : Interview) (rows list : List ℕ) where
       -- no place is left: the refusal behind the Q line
       pub no-full : {p'' : Page} → length rows / 2 ≤ i.rows → p'' ≡ text p' (refusal_line no_place_refusal)
           → Leaves (core_no (holding i rows list) i.changes (implication i.current conclusion) number (object yes no))
-          (record { interview = i; at = end; last = true }) rows list p p''
+          (record { next = None; at = end }) rows list p p''
       unfolding core_no
       no-full h f =
           let l : length rows / 2 ≤ length (objects_of i.rows rows) = omega (arith, length_pairs object i.rows rows) in
@@ -60,7 +60,7 @@ module _ (i : Interview) (rows list : List ℕ) where
       -- the row is filed
       pub no-free : i.rows < length rows / 2
           → Leaves (core_no (holding i rows list) i.changes (implication i.current conclusion) number (object yes no))
-          (record { interview = record { n = i.n; rows = i.rows + 1; rules = i.rules; current = i.current; changes = i.changes }; at = end; last = false })
+          (record { next = Some (record { n = i.n; rows = i.rows + 1; rules = i.rules; current = i.current; changes = i.changes }); at = end })
           (set (set rows (i.rows * 2) yes) (i.rows * 2 + 1) no) list p p'
       unfolding core_no
       no-free h =
@@ -75,7 +75,7 @@ module _ (i : Interview) (rows list : List ℕ) where
       -- no place is left: the refusal behind the Q line
       pub yes-full : {p'' : Page} → length list / 2 ≤ i.rules → p'' ≡ text p' (refusal_line no_place_refusal)
           → Leaves (core_yes (holding i rows list) i.changes (implication i.current conclusion))
-          (record { interview = i; at = end; last = true }) rows list p p''
+          (record { next = None; at = end }) rows list p p''
       unfolding core_yes
       yes-full h f =
           let l : length list / 2 ≤ length (implications_of i.rules list) = omega (arith, length_pairs implication i.rules list) in
@@ -86,7 +86,7 @@ module _ (i : Interview) (rows list : List ℕ) where
           → let words = set (set list (i.rules * 2) i.current) (i.rules * 2 + 1) conclusion in
           (current changes : ℕ) → current ≡ next (in_force [] words (i.rules + 1)) (min i.n 64) i.current → changes ≡ counted i.changes
           → Leaves (core_yes (holding i rows list) i.changes (implication i.current conclusion))
-          (record { interview = record { n = i.n; rows = i.rows; rules = i.rules + 1; current = current; changes = changes }; at = end; last = false })
+          (record { next = Some (record { n = i.n; rows = i.rows; rules = i.rules + 1; current = current; changes = changes }); at = end })
           rows words p p'
       unfolding core_yes
       yes-free small h current changes e k =

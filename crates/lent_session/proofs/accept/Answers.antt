@@ -1,7 +1,6 @@
--- Where the call by value says that nothing changed, the record that was given serves as the record after it.
-use Rattle.std.proofs.Common.{sym, ◌∙◌}
-use Rattle.machine.proofs.Calls.Laws.{kept-made}
+-- A record that is stored only where it changed is as good as one that is stored always.
+use Rattle.machine.proofs.Calls.Laws.{chosen-made}
 use Rattle.lent_session.proofs.accept.Goals as goal
 
-pub returns-else-turn : goal.returns-else-turn
-returns-else-turn c = kept-made c.accept-turn.ensures.made (sym c.accept-turn.ensures.change ∙ c.if-turn.false)
+pub returns : goal.returns
+returns c = rw (c.store.ensures.answered, c.store.ensures.stored) (chosen-made c.accept.ensures)

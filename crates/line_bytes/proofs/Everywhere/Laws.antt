@@ -1,6 +1,7 @@
--- Laws of a test of all the bytes of a line, along an index.
-use Rattle.std.specs.Prelude.{◌≡◌, refl, Bool, true, false, ◌&&◌, List, ◌∷◌, ℕ, ◌+◌, ◌≤◌, ◌<◌, length, get_or, drop}
-use Rattle.std.proofs.Math.Path.{ap}
+-- Laws of a test of all the bytes of a line: it is std's test of all the elements of a list (`everywhere-all`); and along an index.
+use Rattle.std.specs.Prelude.{◌≡◌, refl, Bool, true, false, ◌&&◌, List, [], ◌∷◌, ℕ, ◌+◌, ◌≤◌, ◌<◌, length, get_or, drop}
+use Rattle.std.specs.List.{list_all}
+use Rattle.std.proofs.Math.Path.{sym, ap}
 use Rattle.std.proofs.Common.{◌∙◌, add-one, drop_of_length-le, drop-cons}
 use Rattle.line_bytes.specs.Everywhere.{everywhere}
 
@@ -12,6 +13,11 @@ everywhere-cons f b bs = go (f b)
     go : (t : Bool) → elim t [ true ↦ everywhere f bs | false ↦ false ] ≡ (t && everywhere f bs)
     go true = refl
     go false = refl
+
+pub everywhere-all : (f : ℕ → Bool) (bs : List ℕ) → list_all f bs ≡ everywhere f bs
+unfolding everywhere
+everywhere-all f [] = refl
+everywhere-all f (b ∷ bs) = ap (λ t. f b && t) (everywhere-all f bs) ∙ sym (everywhere-cons f b bs)
 
 module _ (bs : List ℕ) (i : ℕ) where
   -- no byte is left

@@ -11,7 +11,7 @@ use Rattle.nearly_answers.proofs.answer.Goals as goal
 pub returns : goal.returns
 returns g c =
     let a = c.args in
-    let k = c.smaller-end in
+    let k = c.min-end in
     let w = c.list_file in
     input-answered nearly_output input_most nearly-first a.file.now a.out.now w.new.out a.size w.result c.told-file
     (subst (λ bs. WritesIn a.out.now w.new.out w.result (nearly_output bs))

@@ -2,8 +2,9 @@
 -- properties) has just so many, in 2,080 lines (`whole-64`). A longer input gives what its first 65,536 bytes give (`nearly-first`). What
 -- is read from a file into words for all rows is what the definition speaks of (`table-read`), and within the range of the listing
 -- (`read-range`).
-use Rattle.std.specs.Prelude.{◌≡◌, refl, List, ℕ, ◌+◌, ◌*◌, ◌≤◌, ◌<◌, length, take, drop}
+use Rattle.std.specs.Prelude.{◌≡◌, refl, List, ℕ, ◌+◌, ◌*◌, ◌≤◌, ◌<◌, length, take, drop, Result, Ok, Err}
 use Rattle.std.proofs.Common.{sym, ap, ◌∙◌, arith, mul-le-mul, mul_assoc, mul_comm}
+use Rattle.session.specs.declared.Refusal.{Refusal}
 use Rattle.session.specs.Limits.{most_attributes, most_objects}
 use Rattle.session.specs.Refusals.{refusal}
 use Rattle.context.specs.Objects.{objects_of}
@@ -12,8 +13,6 @@ use Rattle.table_layout.specs.Layout.{most_bytes, input_most, opened_of}
 use Rattle.table_layout.proofs.OfLayout.Laws.{opened-long, from-first-bytes}
 use Rattle.table_layout.proofs.OfLayout.Passed.{table-objects, table-attributes}
 use Rattle.table_layout.specs.declared.Layout.{Layout}
-use Rattle.table_layout.specs.declared.Opened.{Opened}
-use Rattle.table_layout.specs.declared.Opened.TheVariants.{Found, Refused}
 use Rattle.table_rows.specs.Rows.{rows_from}
 use Rattle.mark_reading.specs.Marks.{reading, words_of_rows, words_read}
 use Rattle.mark_reading.proofs.Marks.Laws.{reading-all, rows-held}
@@ -64,9 +63,9 @@ pub nearly-size : (file : List ℕ) → length (nearly_output file) ≤ nearly_m
 unfolding nearly_output
 nearly-size file = go (opened_of file) refl
   where
-    go : (o : Opened) → opened_of file ≡ o → length (written file o) ≤ nearly_most
-    go (Found l) e = lines-size-most file l (table-attributes file l e).1
-    go (Refused r) e = omega (arith, refusal-length r)
+    go : (o : Result Layout Refusal) → opened_of file ≡ o → length (written file o) ≤ nearly_most
+    go (Ok l) e = lines-size-most file l (table-attributes file l e).1
+    go (Err r) e = omega (arith, refusal-length r)
 
 -- ---- a longer input
 
@@ -80,11 +79,11 @@ nearly-first = from-first-bytes nearly_output _ long-output
 -- ---- what is read
 
 -- the reading finds what the file opens as, and the words then hold the rows of the table
-pub record Read (file words : List ℕ) (r : Opened) : Type 0 where
+pub record Read (file words : List ℕ) (r : Result Layout Refusal) : Type 0 where
   pub answer : r ≡ opened_of file
-  pub rows : (l : Layout) → r ≡ Found l → objects_of l.objects words ≡ rows_from l.objects file l.marks
+  pub rows : (l : Layout) → r ≡ Ok l → objects_of l.objects words ≡ rows_from l.objects file l.marks
 
-pub table-read : (file words words' : List ℕ) (r : Opened) → length words ≡ most_objects * 2 → r ≡ reading (length words) file
+pub table-read : (file words words' : List ℕ) (r : Result Layout Refusal) → length words ≡ most_objects * 2 → r ≡ reading (length words) file
     → words' ≡ words_read file words → Read file words' r
 table-read file words words' r w a h =
     let all : reading (length words) file ≡ opened_of file =
@@ -92,11 +91,11 @@ table-read file words words' r w a h =
     record {
       answer = a ∙ all;
       rows = λ l e.
-          ap (objects_of l.objects) (h ∙ ap (λ (o : Opened). words_of_rows o file words) (sym a ∙ e))
+          ap (objects_of l.objects) (h ∙ ap (λ (o : Result Layout Refusal). words_of_rows o file words) (sym a ∙ e))
           ∙ rows-held l.objects file l.marks (drop (l.objects * 2) words);
     }
 
-pub read-range : (file words : List ℕ) (l : Layout) (r : Opened) → Read file words r → r ≡ Found l → length words ≡ most_objects * 2
+pub read-range : (file words : List ℕ) (l : Layout) (r : Result Layout Refusal) → Read file words r → r ≡ Ok l → length words ≡ most_objects * 2
     → InRange l.attributes l.objects (length words) percentage
 read-range file words l r h e w =
     let f = sym h.answer ∙ e in
@@ -110,7 +109,7 @@ read-range file words l r h e w =
 -- ---- what is written
 
 -- the output of what the file opened as stands in the buffer whole
-pub output-written : (file out out' : List ℕ) (r : Told) (x : Opened) (bs : List ℕ) → x ≡ opened_of file → bs ≡ written file x
+pub output-written : (file out out' : List ℕ) (r : Told) (x : Result Layout Refusal) (bs : List ℕ) → x ≡ opened_of file → bs ≡ written file x
     → (page out' r.end ≡ text (page out 0) bs) × (untold.bytes + length out ≤ most_counted → Hands untold r.end r.handed)
     → length out ≡ nearly_most → WritesIn out out' r (nearly_output file)
 unfolding nearly_output

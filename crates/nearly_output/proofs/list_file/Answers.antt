@@ -18,24 +18,24 @@ row-size = length-replicate {A = ℕ} (most_objects * 2) 0
 pub write_lines-requires : goal.write_lines-requires
 write_lines-requires g c =
     let file = c.args.file.now in
-    let b = c.read_marks-opened in
+    let b = c.read_marks in
     let r = table-read file row_words b.new.rows b.result row-size b.ensures.answer b.ensures.written in
-    read-range file b.new.rows c.in-Found.layout b.result r c.in-Found.is (b.auto.rows ∙ row-size)
+    read-range file b.new.rows c.in-Ok.layout b.result r c.in-Ok.is (b.auto.rows ∙ row-size)
 
-pub returns-in-Refused : goal.returns-in-Refused
-returns-in-Refused g c =
+pub returns-in-Err : goal.returns-in-Err
+returns-in-Err g c =
     let a = c.args in
-    let b = c.read_marks-opened in
+    let b = c.read_marks in
     let r = table-read a.file.now row_words b.new.rows b.result row-size b.ensures.answer b.ensures.written in
     let w = c.write_refusal in
-    output-written a.file.now a.out.now w.new.out w.result _ _ (sym c.in-Refused.is ∙ r.answer) refl w.ensures c.told-out
+    output-written a.file.now a.out.now w.new.out w.result _ _ (sym c.in-Err.is ∙ r.answer) refl w.ensures c.told-out
 
-pub returns-in-Found : goal.returns-in-Found
-returns-in-Found g c =
+pub returns-in-Ok : goal.returns-in-Ok
+returns-in-Ok g c =
     let a = c.args in
-    let b = c.read_marks-opened in
-    let l = c.in-Found.layout in
+    let b = c.read_marks in
+    let l = c.in-Ok.layout in
     let r = table-read a.file.now row_words b.new.rows b.result row-size b.ensures.answer b.ensures.written in
     let w = c.write_lines in
-    output-written a.file.now a.out.now w.new.out w.result _ _ (sym c.in-Found.is ∙ r.answer)
-    (ap (λ os. nearly_lines l.attributes percentage os (premises l.attributes)) (r.rows l c.in-Found.is)) w.ensures c.told-out
+    output-written a.file.now a.out.now w.new.out w.result _ _ (sym c.in-Ok.is ∙ r.answer)
+    (ap (λ os. nearly_lines l.attributes percentage os (premises l.attributes)) (r.rows l c.in-Ok.is)) w.ensures c.told-out

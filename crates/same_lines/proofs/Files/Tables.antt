@@ -1,19 +1,16 @@
 -- Two files with the same lines have the same counts and the same names, and their names and marks begin at the same lines
 -- (`layout-same`, `name-same`); what a file is opened as, what it is opened as where it has to be complete, and what is read into lent
 -- words say the same then (`opened-same`, `complete-same`, `reading-same`, `words_same`).
-use Rattle.std.specs.Prelude.{◌≡◌, refl, Bool, List, [], ◌++◌, length, drop, replicate, ltb}
+use Rattle.std.specs.Prelude.{◌≡◌, refl, Bool, List, [], ◌++◌, length, drop, replicate, ltb, Result, Ok, Err}
 use Rattle.std.proofs.Common.{sym, ap, subst, ◌∙◌}
 use Rattle.std.proofs.Math.Bool.{true, false}
 use Prim.Native.Nat.{ℕ, zero, suc, ◌≤◌, ◌*◌, ◌/◌}
+use Rattle.session.specs.declared.Refusal.{Refusal}
 use Rattle.table_kinds.specs.declared.Kind.{Kind}
 use Rattle.table_kinds.specs.declared.Kind.TheVariants.{Name, Marks}
-use Rattle.line_walk.specs.declared.Walk.{Walk}
-use Rattle.line_walk.specs.declared.Walk.TheVariants.{Failed, At}
 use Rattle.session.specs.Limits.{most_objects, bad_length}
 use Rattle.session.specs.Refusals.{refusal}
 use Rattle.table_layout.specs.declared.Layout.{Layout}
-use Rattle.table_layout.specs.declared.Opened.{Opened}
-use Rattle.table_layout.specs.declared.Opened.TheVariants.{Found, Refused}
 use Rattle.table_lines.specs.Lines.{bytes_at, after}
 use Rattle.table_lines.specs.Pieces.{lines_of}
 use Rattle.line_bytes.specs.Everywhere.{everywhere}
@@ -82,7 +79,7 @@ module _ (f g : List ℕ) (e : lines_of f ≡ lines_of g) where
       rw (span-name found count at k f, span-name found' count' at' k g, h, h', c)
       (ap (λ bs. elim (ltb k count') [ true ↦ bs | false ↦ [] ]) (bytes_same f g e _ _ (skip-same f g e k at at' s)))
 
-  table_same : (l l' : Layout) → opened_of f ≡ Found l → opened_of g ≡ Found l' → SameLayout f g l l' → SameTable f g l l'
+  table_same : (l l' : Layout) → opened_of f ≡ Ok l → opened_of g ≡ Ok l' → SameLayout f g l l' → SameTable f g l l'
   table_same l l' p p' s = record {
     layout = s;
     object_names = λ k.
@@ -94,12 +91,12 @@ module _ (f g : List ℕ) (e : lines_of f ≡ lines_of g) where
 
   -- ---- what the files are opened as
 
-  opened-walked-same : (w w' : Walk) → SameWalk f g w w' → opened_of f ≡ opened_from (layout_of f) w → opened_of g ≡ opened_from (layout_of g) w'
+  opened-walked-same : (w w' : Result ℕ Refusal) → SameWalk f g w w' → opened_of f ≡ opened_from (layout_of f) w → opened_of g ≡ opened_from (layout_of g) w'
       → SameAnswer f g (opened_from (layout_of f) w) (opened_from (layout_of g) w')
-  opened-walked-same (At at) (At at') s p p' = table_same (layout_of f) (layout_of g) p p' layout-same
-  opened-walked-same (At at) (Failed r) s p p' = absurd s
-  opened-walked-same (Failed r) (At at) s p p' = absurd s
-  opened-walked-same (Failed r) (Failed r') s p p' = s
+  opened-walked-same (Ok at) (Ok at') s p p' = table_same (layout_of f) (layout_of g) p p' layout-same
+  opened-walked-same (Ok at) (Err r) s p p' = absurd s
+  opened-walked-same (Err r) (Ok at) s p p' = absurd s
+  opened-walked-same (Err r) (Err r') s p p' = s
 
   pub opened-same : length f ≤ most_bytes → length g ≤ most_bytes → SameAnswer f g (opened_of f) (opened_of g)
   opened-same h h' =
@@ -120,42 +117,42 @@ module _ (f g : List ℕ) (e : lines_of f ≡ lines_of g) where
       rw (complete_from, ← bytes_same f g e at at' s)
       (go (everywhere is_known (bytes_at f at)) _ _ (complete-from-same k l l' (after f at) (after g at') t (after_same f g e at at' s)))
     where
-      go : (t : Bool) (o o' : Opened) → SameAnswer f g o o'
-          → SameAnswer f g (elim t [ true ↦ o | false ↦ Refused (refusal 29 at) ]) (elim t [ true ↦ o' | false ↦ Refused (refusal 29 at') ])
+      go : (t : Bool) (o o' : Result Layout Refusal) → SameAnswer f g o o'
+          → SameAnswer f g (elim t [ true ↦ o | false ↦ Err (refusal 29 at) ]) (elim t [ true ↦ o' | false ↦ Err (refusal 29 at') ])
       go true o o' a = a
       go false o o' a = (refl, s)
 
-  pub complete-same : (o o' : Opened) → SameAnswer f g o o' → SameAnswer f g (complete_of f o) (complete_of g o')
-  complete-same (Found l) (Found l') a =
+  pub complete-same : (o o' : Result Layout Refusal) → SameAnswer f g o o' → SameAnswer f g (complete_of f o) (complete_of g o')
+  complete-same (Ok l) (Ok l') a =
       subst (λ (k : ℕ). SameAnswer f g (complete_from l.objects l f l.marks) (complete_from k l' g l'.marks)) a.layout.objects
       (complete-from-same l.objects l l' l.marks l'.marks a a.layout.lines_of_marks)
-  complete-same (Found l) (Refused r) a = absurd a
-  complete-same (Refused r) (Found l) a = absurd a
-  complete-same (Refused r) (Refused r') a = a
+  complete-same (Ok l) (Err r) a = absurd a
+  complete-same (Err r) (Ok l) a = absurd a
+  complete-same (Err r) (Err r') a = a
 
   -- ---- read into lent words
 
   -- refused at place 0, where the first line of both is, or not
-  refused-or : (number : ℕ) (t : Bool) (o o' : Opened) → SameAnswer f g o o'
-      → SameAnswer f g (elim t [ true ↦ Refused (refusal number 0) | false ↦ o ]) (elim t [ true ↦ Refused (refusal number 0) | false ↦ o' ])
+  refused-or : (number : ℕ) (t : Bool) (o o' : Result Layout Refusal) → SameAnswer f g o o'
+      → SameAnswer f g (elim t [ true ↦ Err (refusal number 0) | false ↦ o ]) (elim t [ true ↦ Err (refusal number 0) | false ↦ o' ])
   refused-or number true o o' a = (refl, start f g e)
   refused-or number false o o' a = a
 
   module _ (words : ℕ) where
-    pub reading-same : (o o' : Opened) → SameAnswer f g o o' → SameAnswer f g (reading_of words o) (reading_of words o')
+    pub reading-same : (o o' : Result Layout Refusal) → SameAnswer f g o o' → SameAnswer f g (reading_of words o) (reading_of words o')
     unfolding reading_of
     reading-same o o' a = refused-or 2 (bad_length most_objects words) _ _ (from o o' a)
       where
-        from : (x x' : Opened) → SameAnswer f g x x' → SameAnswer f g (reading_from words x) (reading_from words x')
-        from (Found l) (Found l') b = rw (reading_from, ← b.layout.objects) (refused-or 3 (ltb (words / 2) l.objects) (Found l) (Found l') b)
-        from (Found l) (Refused r) b = absurd b
-        from (Refused r) (Found l) b = absurd b
-        from (Refused r) (Refused r') b = b
+        from : (x x' : Result Layout Refusal) → SameAnswer f g x x' → SameAnswer f g (reading_from words x) (reading_from words x')
+        from (Ok l) (Ok l') b = rw (reading_from, ← b.layout.objects) (refused-or 3 (ltb (words / 2) l.objects) (Ok l) (Ok l') b)
+        from (Ok l) (Err r) b = absurd b
+        from (Err r) (Ok l) b = absurd b
+        from (Err r) (Err r') b = b
 
-  pub words_same : (words : List ℕ) (o o' : Opened) → SameAnswer f g o o' → words_of_rows o f words ≡ words_of_rows o' g words
-  words_same words (Found l) (Found l') a =
+  pub words_same : (words : List ℕ) (o o' : Result Layout Refusal) → SameAnswer f g o o' → words_of_rows o f words ≡ words_of_rows o' g words
+  words_same words (Ok l) (Ok l') a =
       ap (λ rows. flat rows ++ drop (l.objects * 2) words) a.rows
       ∙ ap (λ (k : ℕ). flat (rows_from l'.objects g l'.marks) ++ drop (k * 2) words) a.layout.objects
-  words_same words (Found l) (Refused r) a = absurd a
-  words_same words (Refused r) (Found l) a = absurd a
-  words_same words (Refused r) (Refused r') a = refl
+  words_same words (Ok l) (Err r) a = absurd a
+  words_same words (Err r) (Ok l) a = absurd a
+  words_same words (Err r) (Err r') a = refl

@@ -1,7 +1,7 @@
 -- What a table file says depends on its lines alone: two files of at most 65,535 bytes with the same lines, whatever their ends, say the
 -- same (`same_lines`), and the same line has the same number in both (`same_number`). So a file says the same whichever end its last line
 -- has, and with none (`last-line-same`). The place of a refusal is where a line begins, or the end of the file (`refused-at-a-line`).
-use Rattle.std.specs.Prelude.{◌≡◌, refl, List, [], ◌∷◌, ◌++◌, ℕ, ◌≤◌, length}
+use Rattle.std.specs.Prelude.{◌≡◌, refl, List, [], ◌∷◌, ◌++◌, ℕ, ◌≤◌, length, Err}
 use Rattle.std.proofs.Common.{sym, subst, ◌∙◌, arith, length-append}
 use Rattle.table_lines.specs.Lines.{IsEnd, NoEnd, skipped}
 use Rattle.table_lines.specs.Pieces.{lines_of}
@@ -12,7 +12,6 @@ use Rattle.table_layout.specs.Layout.{most_bytes, opened_of}
 use Rattle.complete_tables.specs.Complete.{opened_complete}
 use Rattle.mark_reading.specs.Marks.{reading, complete_reading}
 use Rattle.session.specs.declared.Refusal.{Refusal}
-use Rattle.table_layout.specs.declared.Opened.TheVariants.{Refused}
 use Rattle.same_lines.specs.Files.{SameLine, SameAnswer, SaySame}
 use Rattle.same_lines.proofs.Files.Tables.{opened-same, complete-same, reading-same, words_same}
 
@@ -39,7 +38,7 @@ same_number f g at at' e s =
     rw (s.2, s.3) (number-start f s.0 s.1 ∙ sym (number-start g s.0 (rw (sym e) s.1)))
 
 -- the line is missing where all lines stand before it
-pub refused-at-a-line : (file : List ℕ) (r : Refusal) → length file ≤ most_bytes → opened_complete file ≡ Refused r
+pub refused-at-a-line : (file : List ℕ) (r : Refusal) → length file ≤ most_bytes → opened_complete file ≡ Err r
     → (i : ℕ) × (i ≤ length (lines_of file)) × (r.place ≡ skipped i file 0)
 refused-at-a-line file r h e =
     let s = (subst (λ o. SameAnswer file file o o) e (same_lines file file h h refl).complete_opened).1 in

@@ -1,16 +1,15 @@
 -- Of two files with the same lines, at the same line of each: there is a line in both or in neither, it has the same bytes and the same
 -- faults, and the next one is the same line again. So lines walked are refused at the same line or end at the same line (`walk_same`,
 -- `rest-same`), and the rows are the same (`rows_same`).
-use Rattle.std.specs.Prelude.{◌≡◌, length, get_or, eqb, ltb}
+use Rattle.std.specs.Prelude.{◌≡◌, length, get_or, eqb, ltb, Result, Ok, Err}
 use Rattle.std.proofs.Math.Path.{refl, ap₂, subst}
 use Rattle.std.proofs.Common.{sym, ap, ◌∙◌, ltb-true, ltb-false, lt-ltb, le-ltb}
 use Rattle.std.proofs.Math.Bool.{Bool, true, false}
 use mathlib.Core.List.{List, [], ◌∷◌}
 use Prim.Native.Nat.{ℕ, zero, suc, ◌+◌, ◌≤◌}
 use native.Mathlib.Omega.{arith}
+use Rattle.session.specs.declared.Refusal.{Refusal}
 use Rattle.table_kinds.specs.declared.Kind.{Kind}
-use Rattle.line_walk.specs.declared.Walk.{Walk}
-use Rattle.line_walk.specs.declared.Walk.TheVariants.{Failed, At}
 use Rattle.session.specs.Refusals.{refusal}
 use Rattle.table_lines.specs.Lines.{bytes_at, after, skipped}
 use Rattle.table_lines.proofs.Lines.Laws.{bytes_past, after-past, skipped-suc}
@@ -25,11 +24,11 @@ use Rattle.table_rows.specs.Rows.{row_of, rows_from}
 use Rattle.same_lines.specs.Files.{SameLine, SameRefusal}
 
 -- walks that end at the same line, or are refused alike
-abbrev pub SameWalk : List ℕ → List ℕ → Walk → Walk → Type 0
-SameWalk f g (At at) (At at') = SameLine f g at at'
-SameWalk f g (At at) (Failed r') = ⊥
-SameWalk f g (Failed r) (At at') = ⊥
-SameWalk f g (Failed r) (Failed r') = SameRefusal f g r r'
+abbrev pub SameWalk : List ℕ → List ℕ → Result ℕ Refusal → Result ℕ Refusal → Type 0
+SameWalk f g (Ok at) (Ok at') = SameLine f g at at'
+SameWalk f g (Ok at) (Err r') = ⊥
+SameWalk f g (Err r) (Ok at') = ⊥
+SameWalk f g (Err r) (Err r') = SameRefusal f g r r'
 
 -- there is a line i just if i is below the number of lines
 module _ (file : List ℕ) (i : ℕ) where
@@ -95,8 +94,8 @@ module _ (f g : List ℕ) (e : lines_of f ≡ lines_of g) where
   skip-same (suc k) at at' s = skip-same k (after f at) (after g at') (after_same at at' s)
 
   -- a line that is fine, and then more; or a line refused
-  next-same : (t : Bool) (number at at' : ℕ) (w w' : Walk) → SameLine f g at at' → SameWalk f g w w'
-      → SameWalk f g (elim t [ true ↦ w | false ↦ Failed (refusal number at) ]) (elim t [ true ↦ w' | false ↦ Failed (refusal number at') ])
+  next-same : (t : Bool) (number at at' : ℕ) (w w' : Result ℕ Refusal) → SameLine f g at at' → SameWalk f g w w'
+      → SameWalk f g (elim t [ true ↦ w | false ↦ Err (refusal number at) ]) (elim t [ true ↦ w' | false ↦ Err (refusal number at') ])
   next-same true number at at' w w' s v = v
   next-same false number at at' w w' s v = (refl, s)
 
@@ -104,7 +103,7 @@ module _ (f g : List ℕ) (e : lines_of f ≡ lines_of g) where
   unfolding walk
   walk_same [] at at' s = s
   walk_same (k ∷ ks) at at' s =
-      subst (λ m. SameWalk f g (walk (k ∷ ks) f at) (elim (eqb m 0) [ true ↦ walk ks g (after g at') | false ↦ Failed (refusal m at') ]))
+      subst (λ m. SameWalk f g (walk (k ∷ ks) f at) (elim (eqb m 0) [ true ↦ walk ks g (after g at') | false ↦ Err (refusal m at') ]))
       (fault-same at at' s k) (next-same (eqb (line_fault k f at) 0) _ at at' _ _ s (walk_same ks _ _ (after_same at at' s)))
 
   rest_both : (k at at' : ℕ) → SameLine f g at at' → SameWalk f g (rest k f at) (rest k g at')
@@ -115,30 +114,30 @@ module _ (f g : List ℕ) (e : lines_of f ≡ lines_of g) where
       (subst (λ bs. SameWalk f g (rest (suc k) f at) (step (ltb at (length f)) bs)) (bytes_same at at' s)
       (go (ltb at (length f)) _ _ (next-same (eqb (length (bytes_at f at)) 0) 28 at at' _ _ s (rest_both k _ _ (after_same at at' s)))))
     where
-      step : Bool → List ℕ → Walk
+      step : Bool → List ℕ → Result ℕ Refusal
       step t bs =
-          elim t [ true ↦ elim (eqb (length bs) 0) [ true ↦ rest k g (after g at') | false ↦ Failed (refusal 28 at') ] | false ↦ At at' ]
+          elim t [ true ↦ elim (eqb (length bs) 0) [ true ↦ rest k g (after g at') | false ↦ Err (refusal 28 at') ] | false ↦ Ok at' ]
 
-      go : (t : Bool) (w w' : Walk) → SameWalk f g w w' → SameWalk f g (elim t [ true ↦ w | false ↦ At at ]) (elim t [ true ↦ w' | false ↦ At at' ])
+      go : (t : Bool) (w w' : Result ℕ Refusal) → SameWalk f g w w' → SameWalk f g (elim t [ true ↦ w | false ↦ Ok at ]) (elim t [ true ↦ w' | false ↦ Ok at' ])
       go true w w' v = v
       go false w w' v = s
 
   -- each file with as many lines as it has bytes
-  pub rest-same : (w w' : Walk) → SameWalk f g w w' → SameWalk f g (then_rest f w) (then_rest g w')
-  rest-same (At at) (At at') s =
+  pub rest-same : (w w' : Result ℕ Refusal) → SameWalk f g w w' → SameWalk f g (then_rest f w) (then_rest g w')
+  rest-same (Ok at) (Ok at') s =
       let k = length f + length g in
       subst (λ w. SameWalk f g w (rest (length g) g at')) (rest-enough f k (length f) at (omega arith) (omega arith))
       (subst (SameWalk f g (rest k f at)) (rest-enough g k (length g) at' (omega arith) (omega arith)) (rest_both k at at' s))
-  rest-same (At at) (Failed r) s = absurd s
-  rest-same (Failed r) (At at) s = absurd s
-  rest-same (Failed r) (Failed r') s = s
+  rest-same (Ok at) (Err r) s = absurd s
+  rest-same (Err r) (Ok at) s = absurd s
+  rest-same (Err r) (Err r') s = s
 
   -- where walks end, or were refused
-  pub place_same : (w w' : Walk) → SameWalk f g w w' → SameLine f g (place_of w) (place_of w')
-  place_same (At at) (At at') s = s
-  place_same (At at) (Failed r) s = absurd s
-  place_same (Failed r) (At at) s = absurd s
-  place_same (Failed r) (Failed r') s = s.1
+  pub place_same : (w w' : Result ℕ Refusal) → SameWalk f g w w' → SameLine f g (place_of w) (place_of w')
+  place_same (Ok at) (Ok at') s = s
+  place_same (Ok at) (Err r) s = absurd s
+  place_same (Err r) (Ok at) s = absurd s
+  place_same (Err r) (Err r') s = s.1
 
   pub rows_same : (k at at' : ℕ) → SameLine f g at at' → rows_from k f at ≡ rows_from k g at'
   unfolding rows_from

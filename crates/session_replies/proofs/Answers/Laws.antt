@@ -1,12 +1,13 @@
 -- An accepted yes finds a place; what the record and the lent words hold after an accepted reply or filing, and after a refused one
 -- (`refused-turns`).
-use Rattle.std.specs.Prelude.{◌≡◌, refl, ℕ, ◌+◌, ◌*◌, ◌/◌, ◌≤◌, ◌<◌, min, length, set}
+use Rattle.std.specs.Prelude.{◌≡◌, refl, ℕ, ◌+◌, ◌*◌, ◌/◌, ◌≤◌, ◌<◌, min, length, set, Result}
 use Rattle.std.proofs.Common.{sym, ap, ◌∙◌, subst, add-one, arith, length-set}
 use mathlib.Core.List.{List, [], ◌∷◌, ◌++◌}
 use Rattle.std.proofs.Math.Option.{none}
 use borrow.Author.Tests.{leb-false}
 use Rattle.session.specs.declared.Session.{Session}
 use Rattle.session.specs.declared.Refusal.{Refusal}
+use Rattle.session.specs.declared.Turn.{Turn}
 use Rattle.theory.specs.Implications.{Implication}
 use Rattle.implication.proofs.Pairs.Laws.{pairs-put}
 use Rattle.implication.specs.Closure.{implication, implications_of, all_implications, in_force}
@@ -17,7 +18,6 @@ use Rattle.machine.proofs.Checks.Laws.{passed-append, none-failing, checked-smal
 use Rattle.machine.specs.Machine.{Call, accept, Answer, refused, turn, agreeing, after_filing, checks_of, perform}
 use Rattle.machine.specs.Calls.{state_of, TurnedFrom}
 use Rattle.machine.proofs.Calls.Laws.{performs, turns, rows_kept, list_kept}
-use Rattle.session_replies.specs.declared.Replied.{Replied}
 use Rattle.session_replies.specs.Answers.{reply_answer, refused_with}
 
 -- an accepted yes finds a place, and n is at most 64
@@ -86,12 +86,12 @@ module _ (x : Session) (rows list background : List ℕ) (a b : ℕ) where
       joined = ap (λ k. objects_of k words) (add-one x.rows) ∙ pairs-put object x.rows rows a b h
 
 -- a call that the machine refuses, where the record is given back as it was
-pub refused-turns : {c : Call} {s : Session} {rows list background : List ℕ} {x : Replied} (r : Refusal) → x ≡ refused_with s r
+pub refused-turns : {c : Call} {s : Session} {rows list background : List ℕ} {x : Turn (Result (Unit {0}) Refusal)} (r : Refusal) → x ≡ refused_with s r
     → perform (state_of s rows list background) c ≡ turn (refused r) (state_of s rows list background)
     → TurnedFrom (λ (a : Answer). a) c s rows list background (reply_answer x.answer) x.session rows list x.changed
 refused-turns {c} {s} {rows} {list} {background} r e h =
     let g = state_of s rows list background in
-    subst (λ (y : Replied). TurnedFrom (λ (a : Answer). a) c s rows list background (reply_answer y.answer) y.session rows list y.changed) (sym e)
+    subst (λ (y : Turn (Result (Unit {0}) Refusal)). TurnedFrom (λ (a : Answer). a) c s rows list background (reply_answer y.answer) y.session rows list y.changed) (sym e)
     (turns (performs h (sym (rows_kept c r g rows)) (sym (list_kept c r g list))) refl)
 
 -- an implication put at place k, said of another place and another implication that are the same

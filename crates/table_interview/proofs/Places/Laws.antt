@@ -1,6 +1,8 @@
 -- The opening with no rows and no background; the rows of a complete table, once they are read; the places taken of those there are.
-use Rattle.std.specs.Prelude.{◌≡◌, refl, List, [], ℕ, ◌*◌, ◌≤◌, min, length, take, drop}
+use Rattle.std.specs.Prelude.{◌≡◌, refl, List, [], ℕ, ◌*◌, ◌≤◌, min, length, take, drop, Result, Ok}
 use Rattle.std.proofs.Common.{sym, ap, ◌∙◌, subst, arith, length-take-le}
+use Rattle.session.specs.declared.Refusal.{Refusal}
+use Rattle.session.specs.declared.Session.{Session}
 use Rattle.implication.specs.Pairs.{pairs}
 use Rattle.context.specs.Objects.{objects_of}
 use Rattle.context.specs.Tables.{Table}
@@ -8,14 +10,11 @@ use Rattle.session.specs.Limits.{most_objects, most_implications}
 use Rattle.machine.specs.Machine.{opening}
 use Rattle.machine.specs.Calls.{opening_from}
 use Rattle.session_opening.specs.Opening.{opening_of}
-use Rattle.session_opening.specs.declared.Opened.{Opened as Session-as-Opened}
 use Rattle.mark_reading.specs.Marks.{words_of_rows, complete_reading, complete_words_read}
 use Rattle.mark_reading.proofs.Marks.Laws.{rows-held, complete-reading, complete-words}
 use Rattle.table_layout.proofs.OfLayout.Passed.{table-objects}
 use Rattle.complete_tables.proofs.Complete.Laws.{complete-layout, complete-table}
 use Rattle.table_layout.specs.declared.Layout.{Layout}
-use Rattle.table_layout.specs.declared.Opened.{Opened}
-use Rattle.table_layout.specs.declared.Opened.TheVariants.{Found}
 use Rattle.table_interview.specs.Places.{lent_of, places_for, Holds, ReadComplete}
 
 -- the opening with no rows and no background
@@ -24,26 +23,26 @@ unfolding pairs
 opening-from n rows list = refl
 
 -- what the code opens with, as the machine says it
-pub opening-found : (n : ℕ) (rows list : List ℕ) (o x : Session-as-Opened) → opening_of o rows list [] ≡ opening_from n 0 rows list [] → o ≡ x
+pub opening-found : (n : ℕ) (rows list : List ℕ) (o x : Result Session Refusal) → opening_of o rows list [] ≡ opening_from n 0 rows list [] → o ≡ x
     → opening_of x rows list [] ≡ opening n (lent_of (length rows) (length list)) [] []
 opening-found n rows list o x h e = sym (ap (λ y. opening_of y rows list []) e) ∙ h ∙ opening-from n rows list
 
 -- ---- the table
 
 -- the complete reading into words for all rows of a session finds the file's table, and the words then hold its rows
-pub table-read : (file words words' : List ℕ) (r : Opened) → length words ≡ most_objects * 2 → r ≡ complete_reading (length words) file
+pub table-read : (file words words' : List ℕ) (r : Result Layout Refusal) → length words ≡ most_objects * 2 → r ≡ complete_reading (length words) file
     → words' ≡ complete_words_read file words → ReadComplete file words' r
 table-read file words words' r w a h =
     let answer = a ∙ ap (λ (k : ℕ). complete_reading k file) w ∙ complete-reading file in
     record {
       answer = answer;
       rows = λ l e.
-          ap (objects_of l.objects) (h ∙ complete-words file words w ∙ ap (λ (o : Opened). words_of_rows o file words) (sym answer ∙ e))
+          ap (objects_of l.objects) (h ∙ complete-words file words w ∙ ap (λ (o : Result Layout Refusal). words_of_rows o file words) (sym answer ∙ e))
           ∙ rows-held l.objects file l.marks (drop (l.objects * 2) words);
     }
 
 -- the words of all places hold the table that was found
-pub read-holds : (file words : List ℕ) (l : Layout) (r : Opened) → ReadComplete file words r → r ≡ Found l → length words ≡ most_objects * 2
+pub read-holds : (file words : List ℕ) (l : Layout) (r : Result Layout Refusal) → ReadComplete file words r → r ≡ Ok l → length words ≡ most_objects * 2
     → Holds l.attributes l.objects words
 read-holds file words l r h e w =
     let f = sym h.answer ∙ e in

@@ -23,27 +23,27 @@ list-size = length-replicate {A = ℕ} (most_implications * 2) 0
 pub interview_table-requires : goal.interview_table-requires
 interview_table-requires g c =
     let file = c.args.file.now in
-    let b = c.read_complete-opened in
+    let b = c.read_complete in
     let r = table-read file row_words b.new.rows b.result row-size b.ensures.answer b.ensures.written in
-    read-holds file b.new.rows c.in-Found.layout b.result r c.in-Found.is (b.auto.rows ∙ row-size)
+    read-holds file b.new.rows c.in-Ok.layout b.result r c.in-Ok.is (b.auto.rows ∙ row-size)
 
-pub returns-in-Refused : goal.returns-in-Refused
-returns-in-Refused g c =
+pub returns-in-Err : goal.returns-in-Err
+returns-in-Err g c =
     let a = c.args in
-    let b = c.read_complete-opened in
+    let b = c.read_complete in
     let r = table-read a.file.now row_words b.new.rows b.result row-size b.ensures.answer b.ensures.written in
     let w = c.write_refusal in
-    output-written (places_for a.row_places a.rule_places) a.file.now a.out.now w.new.out w.result _ (sym c.in-Refused.is ∙ r.answer) w.ensures c.told-out
+    output-written (places_for a.row_places a.rule_places) a.file.now a.out.now w.new.out w.result _ (sym c.in-Err.is ∙ r.answer) w.ensures c.told-out
 
-pub returns-in-Found : goal.returns-in-Found
-returns-in-Found g c =
+pub returns-in-Ok : goal.returns-in-Ok
+returns-in-Ok g c =
     let a = c.args in
-    let b = c.read_complete-opened in
+    let b = c.read_complete in
     let r = table-read a.file.now row_words b.new.rows b.result row-size b.ensures.answer b.ensures.written in
-    let k = c.smaller-row_words in
-    let j = c.smaller-list_words in
+    let k = c.min-row_words in
+    let j = c.min-list_words in
     let w = c.interview_table in
     table-written (lent_of (length (take (k.result * 2) row_words)) (length (take (j.result * 2) list_words))) (places_for a.row_places a.rule_places)
-    a.file.now b.new.rows a.out.now w.new.out w.result b.result c.in-Found.layout r c.in-Found.is
+    a.file.now b.new.rows a.out.now w.new.out w.result b.result c.in-Ok.layout r c.in-Ok.is
     (places-taken a.row_places a.rule_places k.result j.result row_words list_words k.ensures j.ensures (omega (arith, row-size)) (omega (arith, list-size)))
     w.ensures c.told-out

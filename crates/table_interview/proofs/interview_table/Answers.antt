@@ -11,28 +11,28 @@ use Rattle.table_interview.proofs.interview_table.Goals as goal
 pub run_beats-requires-clause-along : goal.run_beats-requires-clause-along
 run_beats-requires-clause-along g c =
     let a = c.args in
-    let o = c.open-opened in
+    let o = c.open in
     opened-along (objects_of a.objects a.table.now) a.n (lent_of (length a.rows.now) (length a.list.now)) _ c.requires.complete
-    (sym (opening-found a.n a.rows.now a.list.now o.result _ o.ensures c.in-Open.is))
+    (sym (opening-found a.n a.rows.now a.list.now o.result _ o.ensures c.in-Ok.is))
 
-pub returns-in-Refused : goal.returns-in-Refused
-returns-in-Refused g c =
+pub returns-in-Err : goal.returns-in-Err
+returns-in-Err g c =
     let a = c.args in
-    let o = c.open-opened in
+    let o = c.open in
     let w = c.write_refusal.ensures in (
       w.0
           ∙ ap (λ x. text (page a.out.now 0) (interviewed (objects_of a.objects a.table.now) x))
-          (opening-found a.n a.rows.now a.list.now o.result _ o.ensures c.in-Refused.is),
+          (opening-found a.n a.rows.now a.list.now o.result _ o.ensures c.in-Err.is),
       w.1,
     )
 
-pub returns-in-Open : goal.returns-in-Open
-returns-in-Open g c =
+pub returns-in-Ok : goal.returns-in-Ok
+returns-in-Ok g c =
     let a = c.args in
-    let o = c.open-opened in
+    let o = c.open in
     let w = c.run_beats.ensures in (
       w.0
           ∙ ap (λ x. text (page a.out.now 0) (interviewed (objects_of a.objects a.table.now) x))
-          (opening-found a.n a.rows.now a.list.now o.result _ o.ensures c.in-Open.is),
+          (opening-found a.n a.rows.now a.list.now o.result _ o.ensures c.in-Ok.is),
       w.1,
     )

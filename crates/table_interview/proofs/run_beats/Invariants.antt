@@ -7,12 +7,12 @@ use Rattle.interview_replies.specs.Holding.{holding}
 use Rattle.interview_beat.specs.Running.{remaining, Running}
 use Rattle.table_interview.proofs.run_beats.Given as goal
 
-abbrev pub invariant-loop-beaten : goal.invariant-loop-beaten
-invariant-loop-beaten g l =
+abbrev pub invariant-loop-next : goal.invariant-loop-next
+invariant-loop-next g l =
     let f = l.fn in
     let os = objects_of f.objects f.table in
     Running os (remaining os (holding f.start f.rows f.list) f.start.changes) f.out l.interview l.rows l.list l.out l.at
     × (f.before.bytes + length f.out ≤ most_counted → Hands f.before l.at l.handed)
 
-abbrev pub decreases-loop-beaten : goal.decreases-loop-beaten
-decreases-loop-beaten g l = measure (holding l.interview l.rows l.list)
+abbrev pub decreases-loop-next : goal.decreases-loop-next
+decreases-loop-next g l = measure (holding l.interview l.rows l.list)

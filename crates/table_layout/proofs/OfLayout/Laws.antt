@@ -1,10 +1,9 @@
 -- What a file opens as: two computed cases (`cases`), and for every file (`opened-long`, `opened-walked`). What is the same for all files
 -- that are too long is given by the first bytes of an input (`from-first-bytes`).
-use Rattle.std.specs.Prelude.{◌≡◌, refl, Bool, true, false, List, [], ◌∷◌, ◌++◌, ℕ, ◌≤◌, ◌<◌, length, take, ltb}
+use Rattle.std.specs.Prelude.{◌≡◌, refl, Bool, true, false, List, [], ◌∷◌, ◌++◌, ℕ, ◌≤◌, ◌<◌, length, take, ltb, Result, Ok, Err}
 use Rattle.std.proofs.Common.{sym, ap, ◌∙◌, arith, take_all, length-take-le}
 use borrow.Author.Tests.{lt-ltb, le-ltb, ltb-true, ltb-false}
-use Rattle.table_layout.specs.declared.Opened.TheVariants.{Found, Refused}
-use Rattle.line_walk.specs.declared.Walk.{Walk}
+use Rattle.session.specs.declared.Refusal.{Refusal}
 use Rattle.session.specs.Refusals.{refusal}
 use Rattle.table_lines.specs.Lines.{line_of}
 use Rattle.line_bytes.specs.Everywhere.{everywhere}
@@ -20,7 +19,7 @@ abbrev small : List ℕ
 small = 66 ∷ 10 ∷ 10 ∷ 49 ∷ 10 ∷ 49 ∷ 10 ∷ 10 ∷ 111 ∷ 10 ∷ 112 ∷ 10 ∷ 88 ∷ []
 
 -- computed: it opens, and with a line behind it that is not empty it does not
-cases : (opened_of small ≡ Found (layout 1 1 8 10 12)) × (opened_of (small ++ (10 ∷ 10 ∷ 88 ∷ [])) ≡ Refused (refusal 28 15))
+cases : (opened_of small ≡ Ok (layout 1 1 8 10 12)) × (opened_of (small ++ (10 ∷ 10 ∷ 88 ∷ [])) ≡ Err (refusal 28 15))
 unfolding opened_of layout_of walk rest line_fault fault is_count count_of decimal_from everywhere line_of
 cases = (refl, refl)
 
@@ -30,11 +29,11 @@ module _ (file : List ℕ) where
   unfolding layout_of
   layout-same e f g h i = rw (e, f, g, h, i)
 
-  pub opened-long : most_bytes < length file → opened_of file ≡ Refused (refusal 21 most_bytes)
+  pub opened-long : most_bytes < length file → opened_of file ≡ Err (refusal 21 most_bytes)
   unfolding opened_of
   opened-long h = rw (opened_of, lt-ltb most_bytes (length file) h)
 
-  pub opened-walked : length file ≤ most_bytes → (w : Walk) → w ≡ then_rest file (walk (kinds_to_end file) file 0)
+  pub opened-walked : length file ≤ most_bytes → (w : Result ℕ Refusal) → w ≡ then_rest file (walk (kinds_to_end file) file 0)
       → opened_of file ≡ opened_from (layout_of file) w
   unfolding opened_of
   opened-walked h w e = rw (opened_of, le-ltb most_bytes (length file) h, e)

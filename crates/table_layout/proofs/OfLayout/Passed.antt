@@ -2,13 +2,11 @@
 -- (`table-attributes`) and at most 512 objects (`table-objects`), and its parts begin inside the file (`starts-inside`).
 use Rattle.std.proofs.Math.Path.{◌≡◌}
 use Rattle.std.proofs.Common.{sym}
-use Rattle.std.specs.Prelude.{Bool, true, false, List, ℕ, ◌≤◌, ◌<◌, replicate, ltb}
+use Rattle.std.specs.Prelude.{Bool, true, false, List, ℕ, ◌≤◌, ◌<◌, replicate, ltb, Result, Ok, Err}
 use native.Mathlib.Omega.{arith}
 use Rattle.std.proofs.Math.ListN.{length}
 use Rattle.table_kinds.specs.declared.Kind.TheVariants.{Objects, Attributes, Marks}
-use Rattle.table_layout.specs.declared.Opened.TheVariants.{Refused, Found}
-use Rattle.line_walk.specs.declared.Walk.{Walk}
-use Rattle.line_walk.specs.declared.Walk.TheVariants.{Failed, At}
+use Rattle.session.specs.declared.Refusal.{Refusal}
 use Rattle.session.specs.Refusals.{refusal}
 use Rattle.table_header.specs.Header.{object_count, attribute_count, header, objects_at, attributes_at}
 use Rattle.table_layout.specs.Layout.{most_bytes, to_attribute_names, to_marks, kinds_to_end, layout_of, opened_from, opened_of}
@@ -30,22 +28,25 @@ module _ (file : List ℕ) where
       ((objects-fine _ (line-there file Objects (objects_at file) x.0).1).1, attributes-fine _ (line-there file Attributes (attributes_at file) y.0).1)
 
   -- a table was opened: it is the file's, and every line needed passes
-  pub opened-table : (l : Layout) → opened_of file ≡ Found l → (layout_of file ≡ l) × Passes (walk (kinds_to_end file) file 0)
+  pub opened-table : (l : Layout) → opened_of file ≡ Ok l → (layout_of file ≡ l) × Passes (walk (kinds_to_end file) file 0)
   unfolding opened_of
   opened-table l e = go (ltb most_bytes (length file)) (walk (kinds_to_end file) file 0) e
     where
-      ended : (w : Walk) → opened_from (layout_of file) w ≡ Found l → layout_of file ≡ l
-      ended (At m) z = cc
-      ended (Failed r) z = let n : ◌≡◌ {A = ℕ} 0 1 = cc in absurd (omega arith)
+      ended : (w : Result ℕ Refusal) → opened_from (layout_of file) w ≡ Ok l → layout_of file ≡ l
+      ended (Ok m) z = cc
+      ended (Err r) z = let n : ◌≡◌ {A = ℕ} 0 1 = cc in absurd (omega arith)
 
-      go : (b : Bool) (w : Walk)
-          → elim b [ true ↦ Refused (refusal 21 most_bytes) | false ↦ opened_from (layout_of file) (then_rest file w) ] ≡ Found l
+      go : (b : Bool) (w : Result ℕ Refusal)
+          → elim b as (λ z. Result Layout Refusal) [
+            | true ↦ Err (refusal 21 most_bytes)
+            | false ↦ opened_from (layout_of file) (then_rest file w)
+          ] ≡ Ok l
           → (layout_of file ≡ l) × Passes w
       go true w z = let n : ◌≡◌ {A = ℕ} 0 1 = cc in absurd (omega arith)
-      go false (At m) z = (ended (rest (length file) file m) z, tt)
-      go false (Failed r) z = let n : ◌≡◌ {A = ℕ} 0 1 = cc in absurd (omega arith)
+      go false (Ok m) z = (ended (rest (length file) file m) z, tt)
+      go false (Err r) z = let n : ◌≡◌ {A = ℕ} 0 1 = cc in absurd (omega arith)
 
-  module _ (l : Layout) (e : opened_of file ≡ Found l) where
+  module _ (l : Layout) (e : opened_of file ≡ Ok l) where
     counts : (l.objects ≤ most_objects) × ((0 < l.attributes) × (l.attributes ≤ most_attributes))
     unfolding layout_of
     counts =

@@ -2,7 +2,7 @@
 -- `attribute-span-inside`). No name is empty, and none has more than 80 bytes (`object-name-some`, `attribute-name-some`). So the refusal
 -- is 3 just for a number past the last and for a layout that reading the file does not find (`object-refused`, `attribute-refused`). No
 -- byte of a name is a line feed or a carriage return (`object-name-no-end`, `attribute-name-no-end`).
-use Rattle.std.specs.Prelude.{◌≡◌, refl, Bool, true, false, ◌&&◌, List, [], take, drop, replicate, ltb, leb}
+use Rattle.std.specs.Prelude.{◌≡◌, refl, Bool, true, false, ◌&&◌, List, [], take, drop, replicate, ltb, leb, Ok}
 use Rattle.std.proofs.Common.{sym, ap, ◌∙◌, arith}
 use Rattle.std.proofs.Math.Bool.{and-eq-true_iff}
 use Prim.Native.Nat.{ℕ, zero, suc, ◌+◌, ◌≤◌, ◌<◌}
@@ -13,7 +13,6 @@ use Rattle.theory.proofs.Lists.Laws.{all_nil}
 use Rattle.table_kinds.specs.declared.Kind.{Kind}
 use Rattle.table_kinds.specs.declared.Kind.TheVariants.{Name}
 use Rattle.table_layout.specs.declared.Layout.{Layout}
-use Rattle.table_layout.specs.declared.Opened.TheVariants.{Found}
 use Rattle.table_lines.specs.Lines.{NoEnd, line_of, bytes_at, after, skipped}
 use Rattle.table_lines.proofs.Lines.Laws.{bytes_inside, bytes-no-end, skipped-inside}
 use Rattle.line_tests.specs.Tests.{most_name_bytes}
@@ -110,7 +109,7 @@ module _ (file : List ℕ) where
   name-some found count start k e h p =
       rw (name-there found count start k file e h) (name-fine _ (passes-each Name count k start h p))
 
-module _ (file : List ℕ) (l : Layout) (k : ℕ) (e : opened_of file ≡ Found l) where
+module _ (file : List ℕ) (l : Layout) (k : ℕ) (e : opened_of file ≡ Ok l) where
   -- the names of both kinds pass
   names-passed : Passes (walk (replicate l.objects Name) file l.object_names)
       × Passes (walk (replicate l.attributes Name) file l.attribute_names)

@@ -3,10 +3,13 @@
 use Rattle.std.specs.Prelude.{◌≡◌, refl, Bool, true, false, length}
 use Rattle.std.proofs.Math.Path.{sym, ap}
 use Rattle.std.proofs.Common.{◌∙◌, length-drop, drop_of_length-le, lt_of_lt_of_le, pow_mono}
-use mathlib.Core.List.{List, [], ◌∷◌}
+use Rattle.std.proofs.lemmas.List.{length_push, get_or_push, get_or-take, take-take}
+use Rattle.std.proofs.Math.Seq.{take-append_seam}
+use mathlib.Core.List.{List, [], ◌∷◌, ◌++◌}
+use mir.Val.{bool_byte}
 use Prim.Native.Nat.{ℕ, zero, suc, ◌-◌, ◌≤◌, ◌<◌, ◌+◌, ◌*◌, ◌/◌, ◌^◌}
 use native.Mathlib.Omega.{arith}
-use Rattle.std.proofs.Math.ListN.{drop, get_or}
+use Rattle.std.proofs.Math.ListN.{take, drop, get_or}
 use Rattle.table_lines.specs.Lines.{line_of, after}
 use Rattle.context.specs.Objects.{object}
 use Rattle.session.specs.Limits.{most_attributes}
@@ -24,6 +27,30 @@ cases = (refl, refl)
 pub bit-lt : (t : Bool) → bit_of t < 2
 bit-lt true = omega arith
 bit-lt false = omega arith
+
+-- the bit is what the test is as a number
+pub bit-byte : (t : Bool) → bool_byte t ≡ bit_of t
+bit-byte true = refl
+bit-byte false = refl
+
+-- the last of the first bytes, and those before it
+module _ (bs first before : List ℕ) (b : ℕ) (in_front : first ≡ take (length first) bs) (e : first ≡ before ++ b ∷ []) where
+  pub front-length : length first ≡ length before + 1
+  front-length = ap length e ∙ length_push before b
+
+  pub front-byte : get_or bs (length first - 1) 0 ≡ b
+  front-byte =
+      let j : length first - 1 < length first = omega (arith, front-length) in
+      let k : length before ≡ length first - 1 = omega (arith, front-length) in
+      sym (get_or-take (length first) bs (length first - 1) 0 j)
+      ∙ ap (λ (cs : List ℕ). get_or cs (length first - 1) 0) (sym in_front ∙ e)
+      ∙ get_or_push before b 0 (length first - 1) k
+
+  pub front-before : before ≡ take (length before) bs
+  front-before =
+      sym (take-append_seam before (b ∷ []))
+      ∙ ap (take (length before)) (sym e ∙ in_front)
+      ∙ take-take (length before) (length first) bs (omega (arith, front-length))
 
 module _ (f : ℕ → Bool) where
   pub word-bit : (bs : List ℕ) (j : ℕ) → j < length bs → digit (word_of f bs) j ≡ bit_of (f (get_or bs j 0))
@@ -64,6 +91,22 @@ module _ (f : ℕ → Bool) where
           let l : length (drop j bs) ≤ 63 = rw length-drop (omega arith) in
           let t : word_of f (drop j bs) < 2 ^ 63 = lt_of_lt_of_le (word_lt _) (pow_mono l) in
           omega (arith, bit-lt (f (get_or bs (j - 1) 0)))
+
+  -- the first bytes without their last one: the word of the others has a bit more
+  module _ (bs first before : List ℕ) (b : ℕ) (in_front : first ≡ take (length first) bs) (e : first ≡ before ++ b ∷ []) (h : length first ≤ length bs) where
+    some : 0 < length first
+    some = omega (arith, front-length bs first before b in_front e)
+
+    pub word-front : word_of f (drop (length before) bs) ≡ word_of f (drop (length first) bs) * 2 + bit_of (f b)
+    word-front =
+        let k : length before ≡ length first - 1 = omega (arith, front-length bs first before b in_front e) in
+        ap (λ (k : ℕ). word_of f (drop k bs)) k
+        ∙ word_on bs (length first) some h
+        ∙ ap (λ (x : ℕ). word_of f (drop (length first) bs) * 2 + bit_of (f x)) (front-byte bs first before b in_front e)
+
+    pub word-front_small : length bs ≤ most_attributes → word_of f (drop (length first) bs) * 2 + bit_of (f b) < 2 ^ 64
+    word-front_small few =
+        omega (arith, word_small bs (length first) some h few, ap (λ (x : ℕ). bit_of (f x)) (front-byte bs first before b in_front e))
 
 pub rows-count : (k : ℕ) (file : List ℕ) (at : ℕ) → length (rows_from k file at) ≡ k
 unfolding rows_from

@@ -1,12 +1,11 @@
 -- A walk by the lines that it meets: lines that are there, each without a fault as one of its kind (`Fine`), pass and are all passed
 -- (`fine-walk`), and lines that pass are such lines (`passes-fine`). Such lines in parts, how many there are, and those of one kind
 -- (`fine-append` to `fine-taken`).
-use Rattle.std.specs.Prelude.{◌≡◌, Bool, true, false, ℕ, zero, suc, ◌≤◌, ◌<◌, length, drop, take, replicate, ltb}
+use Rattle.std.specs.Prelude.{◌≡◌, Bool, true, false, ℕ, zero, suc, ◌≤◌, ◌<◌, length, drop, take, replicate, ltb, Ok}
 use Rattle.std.proofs.Math.Path.{refl}
 use Rattle.std.proofs.Common.{sym, ap, subst, ◌∙◌, arith, ltb-true, ltb-false}
 use mathlib.Core.List.{List, [], ◌∷◌, ◌++◌}
 use Rattle.table_kinds.specs.declared.Kind.{Kind}
-use Rattle.line_walk.specs.declared.Walk.TheVariants.{At}
 use Rattle.table_lines.specs.Lines.{bytes_at, after, skipped}
 use Rattle.table_lines.specs.Pieces.{lines_of}
 use Rattle.table_lines.proofs.Pieces.Laws.{lines_at, lines_end}
@@ -36,7 +35,7 @@ module _ (file : List ℕ) where
           (h, g.0, g.1)
       go false t = absurd (subst (Fine (k ∷ ks)) (lines_end file at (ltb-false _ _ t)) f)
 
-  pub fine-walk : (ks : List Kind) (at : ℕ) → Fine ks (lines_of (drop at file)) → walk ks file at ≡ At (skipped (length ks) file at)
+  pub fine-walk : (ks : List Kind) (at : ℕ) → Fine ks (lines_of (drop at file)) → walk ks file at ≡ Ok (skipped (length ks) file at)
   unfolding walk skipped
   fine-walk [] at f = refl
   fine-walk (k ∷ ks) at f =

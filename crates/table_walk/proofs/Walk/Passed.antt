@@ -1,6 +1,6 @@
 -- What lines that pass have: each is there and has no fault (`passes-cons`), and a part of the file from an offset on has the same
 -- lines (`passes-from`). Of lines of marks that pass, the next one has a byte for each attribute (`next-line`).
-use Rattle.std.specs.Prelude.{◌≡◌, refl, Bool, true, false, ℕ, suc, ◌-◌, ◌≤◌, ◌<◌, ◌+◌, length, drop, replicate, take, eqb, ltb}
+use Rattle.std.specs.Prelude.{◌≡◌, refl, Bool, true, false, ℕ, suc, ◌-◌, ◌≤◌, ◌<◌, ◌+◌, length, drop, replicate, take, eqb, ltb, Result, Ok, Err}
 use Rattle.std.proofs.Common.{sym, ◌∙◌, arith, ltb-true, eqb-true, ltb-false, add-zero, take_all, drop-drop}
 use Rattle.std.proofs.Math.Path.{ap, subst}
 use Rattle.std.proofs.Math.Bool.{and-eq-true_iff}
@@ -9,8 +9,6 @@ use Rattle.std.proofs.Math.ListN.{length-drop}
 use Rattle.std.proofs.lemmas.Bool.{eqb-false}
 use Rattle.table_kinds.specs.declared.Kind.{Kind}
 use Rattle.table_kinds.specs.declared.Kind.TheVariants.{Marks}
-use Rattle.line_walk.specs.declared.Walk.{Walk}
-use Rattle.line_walk.specs.declared.Walk.TheVariants.{Failed, At}
 use Rattle.table_lines.specs.Lines.{line_of, bytes_at, after}
 use Rattle.table_lines.proofs.Lines.Laws.{bytes-length, bytes_inside, after-end}
 use Rattle.line_faults.specs.Faults.{fault}
@@ -20,6 +18,7 @@ use Rattle.line_tests.proofs.Tests.Laws.{unless-fine}
 use Rattle.table_kinds.proofs.LineKinds.Laws.{absent-some}
 use Rattle.line_walk.proofs.OfWalk.Laws.{fault-there, fault-missing, walk-passed, walk-failed}
 use Rattle.table_walk.proofs.Walk.Laws.{walk-append}
+use Rattle.session.specs.declared.Refusal.{Refusal}
 
 module _ (file : List ℕ) where
   -- a line without a fault is there
@@ -44,9 +43,9 @@ module _ (file : List ℕ) where
       → Passes (walk ks file at) × Passes (walk ls file (place_of (walk ks file at)))
   passes_append ks ls at p = go (walk ks file at) (subst Passes (walk-append file ks ls at) p)
     where
-      go : (w : Walk) → Passes (walk_on w ls file) → Passes w × Passes (walk ls file (place_of w))
-      go (At m) q = (tt, q)
-      go (Failed r) q = absurd q
+      go : (w : Result ℕ Refusal) → Passes (walk_on w ls file) → Passes w × Passes (walk ls file (place_of w))
+      go (Ok m) q = (tt, q)
+      go (Err r) q = absurd q
 
   -- ---- the part of the file from an offset on
 

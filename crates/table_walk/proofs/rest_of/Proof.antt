@@ -1,4 +1,5 @@
 -- The walk over the empty lines from i on is the one from `at` on; each line takes at least one byte.
+use Rattle.std.specs.Prelude.{Err}
 use mathlib.Core.Path.{◌≡◌, refl, sym, ap, ◌∙◌}
 use mathlib.Core.List.{List}
 use Prim.Native.Nat.{ℕ, ◌≤◌, ◌<◌, ◌+◌, ◌-◌}
@@ -8,7 +9,6 @@ use borrow.Author.Rules.{rules}
 use Rattle.table_lines.specs.declared.Line.{Line}
 use Rattle.table_lines.specs.Lines.{line_of, after}
 use Rattle.table_lines.proofs.Lines.Laws.{after-inside, after-moves}
-use Rattle.line_walk.specs.declared.Walk.TheVariants.{Failed}
 use Rattle.table_walk.specs.Walk.{rest}
 use Rattle.table_walk.proofs.Walk.Laws.{rest_end, rest-on, rest-stop}
 use Rattle.table_walk.proofs.rest_of.Statement.{statement}
@@ -45,7 +45,7 @@ returns : tie.Need-returns-then-line-ne0 invariant-loop decreases-loop
 returns c =
     let f = file c.before.before.before.before in
     let l = c.loop-i in
-    ap Failed c.refuse.ensures
+    ap Err c.refuse.ensures
     ∙ sym (rest-stop f (length f) l.i (omega arith) (omega arith) (λ z. omega (arith, size c.before.before.before))) ∙ l.invariant
 
 add-i : tie.Need-overflow_add-i invariant-loop decreases-loop

@@ -1,8 +1,8 @@
 -- What is answered and what the output holds then, computed (`cases`, `lengths`, `outputs`), and for every table: the first check that fails
--- decides (`rows-refused`, `name-refused`, `long-refused`), and where none does the answer is the number of bytes (`all-written`). Where the check of the names passes,
+-- decides (`rows-refused`, `name-refused`, `long-refused`) and the output is kept (`refuses`), and where none does the answer is the number of bytes (`all-written`). Where the check of the names passes,
 -- there are as many as are needed and they are small (`names_fine`, `names-fit`), so that the number of bytes is known before the first one
 -- is written. Bytes are answered just where every check passes (`bytes-checked`).
-use Rattle.std.specs.Prelude.{◌≡◌, refl, Bool, true, false, List, [], ◌∷◌, ℕ, zero, suc, ◌+◌, ◌*◌, ◌≤◌, ◌<◌, length, take, replicate, eqb, ltb, leb}
+use Rattle.std.specs.Prelude.{◌≡◌, refl, Bool, true, false, List, [], ◌∷◌, ℕ, zero, suc, ◌+◌, ◌*◌, ◌≤◌, ◌<◌, length, take, replicate, eqb, ltb, leb, Ok, Err, Result}
 use Rattle.std.proofs.Common.{sym, ◌∙◌, true≢false, arith, lt-ltb, le-ltb, ltb-true, ltb-false, leb-true, eqb-true}
 use Rattle.std.proofs.Math.Path.{ap}
 use Rattle.std.proofs.Math.Bool.{and-eq-true_iff, or-true}
@@ -24,8 +24,6 @@ use Rattle.table_kinds.specs.declared.Kind.TheVariants.{Name}
 use Rattle.line_tests.specs.Tests.{most_name_bytes, refuse_unless, is_name}
 use Rattle.line_tests.proofs.Tests.Laws.{unless-fine}
 use Rattle.line_faults.specs.Faults.{fault}
-use Rattle.line_walk.specs.declared.Walk.{Walk}
-use Rattle.line_walk.specs.declared.Walk.TheVariants.{Failed, At}
 use Rattle.line_walk.specs.Walk.{line_fault, walk}
 use Rattle.line_walk.proofs.OfWalk.Laws.{fault-there, fault-missing, walk-passed, walk-failed}
 use Rattle.table_walk.specs.Walk.{place_of, Passes}
@@ -36,17 +34,16 @@ use Rattle.machine.specs.Checks.{Check, check, first_failing, strange}
 use Rattle.machine.proofs.Checks.Laws.{or-false, passed, failing-nothing, failing-here, failing-later, failing-append, failing-first, passed-append, none-failing}
 use Rattle.row_checks.specs.Rows.{row_checks}
 use Rattle.table_text.specs.Table.{text_of}
-use Rattle.table_writing.specs.declared.Written.TheVariants.{Bytes, Refused}
-use Rattle.table_writing.specs.Writing.{names_walk, is_failed, is_long, write_checks, RowsPass, NamesPass, written_by, writing, output_after}
+use Rattle.table_writing.specs.Writing.{names_walk, is_failed, is_long, write_checks, RowsPass, NamesPass, written_by, writing, output_after, WritesFrom}
 
 -- computed: no rows and one property, and what refuses it: an output that is too short, no name, a name too few, an empty one; and a row
 -- that is refused before all of that
-cases : (writing 1 0 [] (112 ∷ []) 10 ≡ Bytes 10)
-    × (writing 1 0 [] (112 ∷ []) 9 ≡ Refused (refusal 30 0))
-    × (writing 1 0 [] [] 9 ≡ Refused (refusal 26 0))
-    × (writing 2 0 [] (112 ∷ 10 ∷ []) 9 ≡ Refused (refusal 26 2))
-    × (writing 2 0 [] (112 ∷ 10 ∷ 10 ∷ []) 9 ≡ Refused (refusal 26 2))
-    × (writing 2 2 (1 ∷ 0 ∷ 1 ∷ 1 ∷ []) [] 0 ≡ Refused (refusal 5 1))
+cases : (writing 1 0 [] (112 ∷ []) 10 ≡ Ok 10)
+    × (writing 1 0 [] (112 ∷ []) 9 ≡ Err (refusal 30 0))
+    × (writing 1 0 [] [] 9 ≡ Err (refusal 26 0))
+    × (writing 2 0 [] (112 ∷ 10 ∷ []) 9 ≡ Err (refusal 26 2))
+    × (writing 2 0 [] (112 ∷ 10 ∷ 10 ∷ []) 9 ≡ Err (refusal 26 2))
+    × (writing 2 2 (1 ∷ 0 ∷ 1 ∷ 1 ∷ []) [] 0 ≡ Err (refusal 5 1))
 unfolding write_checks row_checks first_failing bad_length anywhere lowest marked_twice meets strange inside full pairs walk line_fault fault closed marks_text digits pieces_from line_of
 cases = (refl, refl, refl, refl, refl, refl)
 
@@ -55,8 +52,8 @@ lengths : (is_long 65536 65535 ≡ false) × (is_long 65536 65536 ≡ true) × (
 lengths = (refl, refl, refl, refl)
 
 -- computed: a text stands at the start of the output, with the bytes behind it as they were; a refusal leaves every byte
-outputs : (output_after (Bytes 2) (66 ∷ 10 ∷ []) (1 ∷ 2 ∷ 3 ∷ []) ≡ 66 ∷ 10 ∷ 3 ∷ [])
-    × (output_after (Refused (refusal 30 0)) (66 ∷ 10 ∷ []) (1 ∷ 2 ∷ 3 ∷ []) ≡ 1 ∷ 2 ∷ 3 ∷ [])
+outputs : (output_after (Ok 2) (66 ∷ 10 ∷ []) (1 ∷ 2 ∷ 3 ∷ []) ≡ 66 ∷ 10 ∷ 3 ∷ [])
+    × (output_after (Err (refusal 30 0)) (66 ∷ 10 ∷ []) (1 ∷ 2 ∷ 3 ∷ []) ≡ 1 ∷ 2 ∷ 3 ∷ [])
 outputs = (refl, refl)
 
 -- which texts are long
@@ -81,9 +78,9 @@ names-small (suc k) (l ∷ ls) f =
     let short : length l ≤ most_name_bytes = leb-true _ _ ((and-eq-true_iff (ltb 0 (length l)) (leb (length l) most_name_bytes)).0 (unless-fine _ 25 f.0)).1 in
     omega (arith, short, names-small k ls f.1)
 
-walk-passes : (w : Walk) → is_failed w ≡ false → Passes w
-walk-passes (At at) e = tt
-walk-passes (Failed r) e = absurd (true≢false e)
+walk-passes : (w : Result ℕ Refusal) → is_failed w ≡ false → Passes w
+walk-passes (Ok at) e = tt
+walk-passes (Err r) e = absurd (true≢false e)
 
 module _ (n used : ℕ) (names : List ℕ) (e : NamesPass n used names) where
   pub names_fine : Fine (replicate (used + n) Name) (lines_of names)
@@ -110,9 +107,9 @@ name-fault names at h = go (ltb at (length names)) refl
     go true t = there (fault-there names Name at (ltb-true _ _ t))
     go false t = fault-missing names Name at (ltb-false _ _ t)
 
-abbrev number_of : Walk → ℕ
-number_of (At at) = 26
-number_of (Failed r) = r.number
+abbrev number_of : Result ℕ Refusal → ℕ
+number_of (Ok at) = 26
+number_of (Err r) = r.number
 
 name-number : (k : ℕ) (names : List ℕ) (at : ℕ) → number_of (walk (replicate k Name) names at) ≡ 26
 unfolding walk
@@ -141,7 +138,7 @@ module _ (n used : ℕ) (words names : List ℕ) (room : ℕ) where
   abbrev size_check : Check
   size_check = check 30 (is_long room size) 0
 
-  pub rows-refused : (r : Refusal) → first_failing (row_checks n used words) ≡ some r → writing n used words names room ≡ Refused r
+  pub rows-refused : (r : Refusal) → first_failing (row_checks n used words) ≡ some r → writing n used words names room ≡ Err r
   unfolding write_checks
   rows-refused r e = ap (λ o. written_by o size) (failing-first (row_checks n used words) (name_check ∷ size_check ∷ []) r e)
 
@@ -150,26 +147,31 @@ module _ (n used : ℕ) (words names : List ℕ) (room : ℕ) where
     unfolding write_checks
     later = failing-append (row_checks n used words) (name_check ∷ size_check ∷ []) (passed (row_checks n used words) rows)
 
-    pub name-refused : (r : Refusal) → names_walk n used names ≡ Failed r → writing n used words names room ≡ Refused r
+    pub name-refused : (r : Refusal) → names_walk n used names ≡ Err r → writing n used words names room ≡ Err r
     name-refused r e =
         let k : r.number ≡ 26 = sym (ap number_of e) ∙ name-number (used + n) names 0 in
         ap (λ o. written_by o size) (later ∙ failing-here name_check (size_check ∷ []) (ap is_failed e)
         ∙ ap (λ (p : ℕ). some (refusal 26 p)) (ap place_of e))
-        ∙ ap (λ (m : ℕ). Refused (refusal m r.place)) (sym k)
+        ∙ ap (λ (m : ℕ). Err (refusal m r.place)) (sym k)
 
     module _ (named : NamesPass n used names) where
       last : first_failing (write_checks n used words names room) ≡ first_failing (size_check ∷ [])
       last = later ∙ failing-later name_check (size_check ∷ []) named
 
-      pub long-refused : is_long room (length (text_of n used words names)) ≡ true → writing n used words names room ≡ Refused (refusal 30 0)
+      pub long-refused : is_long room (length (text_of n used words names)) ≡ true → writing n used words names room ≡ Err (refusal 30 0)
       long-refused e = ap (λ o. written_by o size) (last ∙ failing-here size_check [] e)
 
-      pub all-written : is_long room (length (text_of n used words names)) ≡ false → writing n used words names room ≡ Bytes size
+      pub all-written : is_long room (length (text_of n used words names)) ≡ false → writing n used words names room ≡ Ok size
       all-written e = ap (λ o. written_by o size) (last ∙ failing-later size_check [] e ∙ failing-nothing)
+
+-- a refusal keeps every byte of the output
+pub refuses : (n used : ℕ) (words names out : List ℕ) (x : Result ℕ Refusal) (r : Refusal) → x ≡ Err r → writing n used words names (length out) ≡ Err r
+    → WritesFrom n used words names out x out
+refuses n used words names out x r e h = record { answer = e ∙ sym h; output = rw e refl }
 
 -- ---- where bytes are answered
 
-answered : (o : Option Refusal) (size length : ℕ) → Bytes size ≡ written_by o length → (o ≡ none) × (length ≡ size)
+answered : (o : Option Refusal) (size length : ℕ) → Ok size ≡ written_by o length → (o ≡ none) × (length ≡ size)
 answered none size length e = (refl, cc)
 answered (some r) size length e = let z : ◌≡◌ {A = ℕ} 0 1 = cc in absurd (omega arith)
 
@@ -181,7 +183,7 @@ pub record BytesChecked (n used : ℕ) (words names : List ℕ) (room size : ℕ
   pub short : size ≤ most_bytes
   pub fits : size ≤ room
 
-pub bytes-checked : (n used : ℕ) (words names : List ℕ) (room size : ℕ) → Bytes size ≡ writing n used words names room
+pub bytes-checked : (n used : ℕ) (words names : List ℕ) (room size : ℕ) → Ok size ≡ writing n used words names room
     → BytesChecked n used words names room size
 unfolding write_checks
 bytes-checked n used words names room size e =

@@ -3,7 +3,7 @@
 -- Q line of a yes for which there is no place (`program-ends`). Other than the file's own, this is the only refusal: the program has
 -- places for all rows of a file. Where other places are lent, the refused reply can be a no (`table-ends`). The program writes at
 -- most 163,840 bytes (`output-size`).
-use Rattle.std.specs.Prelude.{◌≡◌, refl, false, not, ◌||◌, ◌⊎◌, List, [], ℕ, ◌<◌, ◌≤◌, length, eqb, ltb}
+use Rattle.std.specs.Prelude.{◌≡◌, refl, false, not, ◌||◌, ◌⊎◌, List, [], ℕ, ◌<◌, ◌≤◌, length, eqb, ltb, Result, Ok, Err}
 use Rattle.std.proofs.Common.{subst, sym, ap, ◌∙◌, arith, ne_eqb, le-ltb}
 use Rattle.attribute_set.specs.Sets.{inside, full}
 use Rattle.attribute_set.proofs.Sets.Laws.{sub-inside, none-sub}
@@ -20,8 +20,6 @@ use Rattle.table_layout.proofs.OfLayout.Passed.{table-attributes, table-objects}
 use Rattle.complete_tables.proofs.Complete.Laws.{complete-table, complete-layout}
 use Rattle.table_layout.specs.declared.Layout.{Layout}
 use Rattle.session.specs.declared.Refusal.{Refusal}
-use Rattle.table_layout.specs.declared.Opened.{Opened}
-use Rattle.table_layout.specs.declared.Opened.TheVariants.{Found, Refused}
 use Rattle.session.specs.Refusals.{refusal}
 use Rattle.closing_lines.specs.Closing.{refusal_line}
 use Rattle.closing_lines.proofs.Closing.Laws.{refusal-length}
@@ -32,18 +30,18 @@ use Rattle.transcript.proofs.Core.Conclusion.{conclusion}
 use Rattle.transcript.proofs.Core.Rows.{rows-suffice}
 use Rattle.transcript.proofs.Core.Size.{size}
 
-pub program-refuses : (lent : Lent) (file : List ℕ) (r : Refusal) → complete_of file (opened_of file) ≡ Refused r
+pub program-refuses : (lent : Lent) (file : List ℕ) (r : Refusal) → complete_of file (opened_of file) ≡ Err r
     → output_with lent file ≡ refusal_line (refusal r.number r.place)
 unfolding output_with
 program-refuses lent file r e = rw (output_with, e)
 
 -- where these places are lent and accepted, the output is that of the interview
-as-interviewed : (lent : Lent) (file : List ℕ) (l : Layout) (s : State) → complete_of file (opened_of file) ≡ Found l
+as-interviewed : (lent : Lent) (file : List ℕ) (l : Layout) (s : State) → complete_of file (opened_of file) ≡ Ok l
     → opening l.attributes lent [] [] ≡ opened s → output_with lent file ≡ beats (enough s) (table_of file l) s 0
 unfolding output_with
 as-interviewed lent file l s e o = ap (written lent file) e ∙ ap (interviewed (table_of file l)) o
 
-pub table-ends : (lent : Lent) (file : List ℕ) (l : Layout) (s : State) → complete_of file (opened_of file) ≡ Found l → opening l.attributes lent [] [] ≡ opened s
+pub table-ends : (lent : Lent) (file : List ℕ) (l : Layout) (s : State) → complete_of file (opened_of file) ≡ Ok l → opening l.attributes lent [] [] ≡ opened s
     → Concluded l.attributes (table_of file l) (output_with lent file) ⊎ Full l.attributes (output_with lent file)
 table-ends lent file l s e o =
     subst (λ t. Concluded l.attributes (table_of file l) t ⊎ Full l.attributes t) (sym (as-interviewed lent file l s e o))
@@ -62,7 +60,7 @@ places-open n l u =
     inside-m : not (inside 0 (full n)) ≡ false
     inside-m = rw (sub-inside (none-sub (full n)))
 
-pub program-ends : (file : List ℕ) (l : Layout) → complete_of file (opened_of file) ≡ Found l
+pub program-ends : (file : List ℕ) (l : Layout) → complete_of file (opened_of file) ≡ Ok l
     → Concluded l.attributes (table_of file l) (output file) ⊎ ListFull l.attributes (output file)
 program-ends file l e =
     let k = complete-layout file l e in
@@ -77,11 +75,11 @@ pub output-size : (lent : Lent) (file : List ℕ) → length (output_with lent f
 unfolding output_with
 output-size lent file = go (complete_of file (opened_of file)) refl
   where
-    held : (l : Layout) → complete_of file (opened_of file) ≡ Found l → (o : Opening) → opening l.attributes lent [] [] ≡ o
+    held : (l : Layout) → complete_of file (opened_of file) ≡ Ok l → (o : Opening) → opening l.attributes lent [] [] ≡ o
         → length (interviewed (table_of file l) o) ≤ output_most
     held l e (opened s) f = size (enough s) (table_of file l) s 0 (opened-along (table_of file l) l.attributes lent s (complete-table file l e) f)
     held l e (rejected r) f = omega (arith, refusal-length r)
 
-    go : (x : Opened) → complete_of file (opened_of file) ≡ x → length (written lent file x) ≤ output_most
-    go (Found l) e = held l e (opening l.attributes lent [] []) refl
-    go (Refused r) e = omega (arith, refusal-length (refusal r.number r.place))
+    go : (x : Result Layout Refusal) → complete_of file (opened_of file) ≡ x → length (written lent file x) ≤ output_most
+    go (Ok l) e = held l e (opening l.attributes lent [] []) refl
+    go (Err r) e = omega (arith, refusal-length (refusal r.number r.place))

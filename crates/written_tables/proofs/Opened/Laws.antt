@@ -1,6 +1,6 @@
 -- A file whose lines are those of a table opens as that table (`table-opened`), has the names of its name lines (`object-line`,
 -- `attribute-line`), and the rows of its lines of marks (`table-rows`).
-use Rattle.std.specs.Prelude.{◌≡◌, Bool, ℕ, ◌+◌, ◌<◌, drop, get_or, replicate}
+use Rattle.std.specs.Prelude.{◌≡◌, Bool, ℕ, ◌+◌, ◌<◌, drop, get_or, replicate, Ok}
 use Rattle.std.proofs.Math.Path.{refl, sym, ap, ap₂}
 use Rattle.std.proofs.Common.{◌∙◌, arith, length-append, get_or-append-add, ltb-true, ltb-false}
 use Rattle.std.proofs.Math.Bool.{true, false}
@@ -16,14 +16,12 @@ use Rattle.table_lines.specs.Pieces.{lines_of}
 use Rattle.table_lines.proofs.Pieces.Laws.{lines_at, lines_end, lines_left, start-end, start-bytes}
 use Rattle.table_lines.proofs.Pieces.Parts.{skipped-add}
 use Rattle.line_faults.specs.Faults.{fault}
-use Rattle.line_walk.specs.declared.Walk.TheVariants.{At}
 use Rattle.line_walk.specs.Walk.{walk}
 use Rattle.table_walk.specs.Walk.{place_of, then_rest}
 use Rattle.table_walk.proofs.Walk.Laws.{rest_end}
 use Rattle.table_walk.proofs.Walk.Lines.{Fine, fine-walk, fine-append, fine-front}
 use Rattle.table_counts.specs.Counts.{count_of}
 use Rattle.table_header.specs.Header.{object_count, attribute_count, header}
-use Rattle.table_layout.specs.declared.Opened.TheVariants.{Found}
 use Rattle.table_layout.specs.Layout.{to_attribute_names, to_marks, kinds_to_end, opened_of}
 use Rattle.table_layout.proofs.OfLayout.Laws.{layout-same, opened-walked}
 use Rattle.found_layout.specs.Found.{finds}
@@ -89,8 +87,8 @@ module _ (file : List ℕ) (n used : ℕ) (names marks : List (List ℕ)) (t : H
       rw (kinds, t.lines) (fine-append header (ks ++ js) (header_lines used n) (names ++ marks) refl header-fine left)
 
   -- where its first lines end
-  walked : (ks : List Kind) (k : ℕ) → Fine ks (lines_of file) → length ks ≡ k → walk ks file 0 ≡ At (skipped k file 0)
-  walked ks k f e = fine-walk file ks 0 f ∙ ap (λ (j : ℕ). At (skipped j file 0)) e
+  walked : (ks : List Kind) (k : ℕ) → Fine ks (lines_of file) → length ks ≡ k → walk ks file 0 ≡ Ok (skipped k file 0)
+  walked ks k f e = fine-walk file ks 0 f ∙ ap (λ (j : ℕ). Ok (skipped j file 0)) e
 
   marks_fine : Fine (to_marks file) (lines_of file)
   marks_fine = fine-front (to_marks file) (replicate (object_count file) (Marks (attribute_count file))) (lines_of file) end-fine
@@ -98,7 +96,7 @@ module _ (file : List ℕ) (n used : ℕ) (names marks : List (List ℕ)) (t : H
   attributes-fine : Fine (to_attribute_names file) (lines_of file)
   attributes-fine = fine-front (to_attribute_names file) (replicate (attribute_count file) Name) (lines_of file) marks_fine
 
-  pub table-opened : opened_of file ≡ Found (table_of file n used)
+  pub table-opened : opened_of file ≡ Ok (table_of file n used)
   table-opened =
       let o : length (replicate (object_count file) Name) ≡ used = length-replicate _ Name ∙ objects-read in
       let a : length (replicate (attribute_count file) Name) ≡ n = length-replicate _ Name ∙ attributes-read in
@@ -108,9 +106,9 @@ module _ (file : List ℕ) (n used : ℕ) (names marks : List (List ℕ)) (t : H
       let objectNames = walked header 5 (fine-front header (replicate (object_count file) Name) (lines_of file) attributes-fine) refl in
       let attributeNames = walked (to_attribute_names file) (5 + used) attributes-fine (simp length-append (omega arith)) in
       let marksAt = walked (to_marks file) (5 + (used + n)) marks_fine (simp length-append (omega arith)) in
-      opened-walked file t.short (At (skipped total file 0))
+      opened-walked file t.short (Ok (skipped total file 0))
       (sym (ap (then_rest file) whole ∙ rest_end file (length file) (skipped total file 0) (omega arith)))
-      ∙ ap Found (sym (layout-same file (sym objects-read) (sym attributes-read) (sym (ap place_of objectNames))
+      ∙ ap Ok (sym (layout-same file (sym objects-read) (sym attributes-read) (sym (ap place_of objectNames))
       (sym (ap place_of attributeNames)) (sym (ap place_of marksAt))))
 
   -- ---- the names

@@ -1,13 +1,13 @@
 -- What is written of what was read: the text, or 30 where it is too long (`written`, `refused`). Where the text is read back, its table says
 -- the same as the file's (`same-table`), and the text of what is read of it is the same text (`text-again`).
-use Rattle.std.specs.Prelude.{◌≡◌, ◌⊎◌, List, [], ◌++◌, ℕ, ◌+◌, ◌≤◌, ◌<◌, length, take, drop}
+use Rattle.std.specs.Prelude.{◌≡◌, ◌⊎◌, List, [], ◌++◌, ℕ, ◌+◌, ◌≤◌, ◌<◌, length, take, drop, Result, Ok, Err}
 use Rattle.std.proofs.Common.{sym, ap, ap₂, ◌∙◌, inl, inr, append_assoc, arith, take-add, take_at, length-take-le}
+use Rattle.session.specs.declared.Refusal.{Refusal}
 use Rattle.session.specs.Refusals.{refusal}
 use Rattle.attribute_set.proofs.Sets.Laws.{lt-or-le}
 use Rattle.context.specs.Objects.{Object, objects_of}
 use Rattle.table_lines.specs.Pieces.{lines_of}
 use Rattle.table_layout.specs.declared.Layout.{Layout}
-use Rattle.table_layout.specs.declared.Opened.TheVariants.{Found}
 use Rattle.table_layout.specs.Layout.{most_bytes, opened_of}
 use Rattle.found_layout.specs.Found.{finds}
 use Rattle.name_spans.proofs.Spans.Laws.{span-past}
@@ -18,8 +18,6 @@ use Rattle.same_lines.specs.Files.{SameTable}
 use Rattle.closed_lines.specs.Closed.{closed, first_lines}
 use Rattle.table_text.specs.Table.{header_lines, mark_lines, lines_written, text_of}
 use Rattle.table_text.proofs.Table.Laws.{text-parts}
-use Rattle.table_writing.specs.declared.Written.{Written}
-use Rattle.table_writing.specs.declared.Written.TheVariants.{Bytes, Refused}
 use Rattle.table_writing.specs.Writing.{RowsPass, NamesPass, output_after, WritesFrom}
 use Rattle.table_writing.proofs.Writing.Laws.{long-file, long-output, short-both, long-refused, all-written}
 use Rattle.written_tables.specs.Tables.{TextRead}
@@ -29,16 +27,16 @@ use Rattle.written_tables.proofs.Settled.Reading.{rows-read, rows-checked, start
 -- ---- the answer of a writer, by the length of the text
 
 module _ (n used : ℕ) (words names : List ℕ) (p : RowsPass n used words) (q : NamesPass n used names)
-    (out : List ℕ) (x : Written) (out' : List ℕ) (w : WritesFrom n used words names out x out') where
+    (out : List ℕ) (x : Result ℕ Refusal) (out' : List ℕ) (w : WritesFrom n used words names out x out') where
   abbrev size : ℕ
   size = length (text_of n used words names)
 
-  text-written : size ≤ most_bytes → size ≤ length out → (x ≡ Bytes size) × (out' ≡ text_of n used words names ++ drop size out)
+  text-written : size ≤ most_bytes → size ≤ length out → (x ≡ Ok size) × (out' ≡ text_of n used words names ++ drop size out)
   text-written short fits =
-      let e : x ≡ Bytes size = w.answer ∙ all-written n used words names (length out) p q (short-both (length out) size short fits) in
+      let e : x ≡ Ok size = w.answer ∙ all-written n used words names (length out) p q (short-both (length out) size short fits) in
       (e, w.output ∙ ap (λ y. output_after y (text_of n used words names) out) e)
 
-  text-refused : (most_bytes < size) ⊎ (length out < size) → x ≡ Refused (refusal 30 0)
+  text-refused : (most_bytes < size) ⊎ (length out < size) → x ≡ Err (refusal 30 0)
   text-refused (inl h) = w.answer ∙ long-refused n used words names (length out) p q (long-file (length out) size h)
   text-refused (inr h) = w.answer ∙ long-refused n used words names (length out) p q (long-output (length out) size h)
 
@@ -67,21 +65,21 @@ parts used n names os = closed (header_lines used n) ++ (closed names ++ closed 
 
 -- ---- what was read, written
 
-module _ (file ws : List ℕ) (l : Layout) (r : reading (length ws) file ≡ Found l) (end : ℕ) (h : l.marks ≤ end) where
+module _ (file ws : List ℕ) (l : Layout) (r : reading (length ws) file ≡ Ok l) (end : ℕ) (h : l.marks ≤ end) where
   abbrev text : List ℕ
   text = text_again file l ws end
 
-  opened : opened_of file ≡ Found l
+  opened : opened_of file ≡ Ok l
   opened = (accepts (length ws) (opened_of file) l r).opened
 
   -- every check before 30 passes
-  module _ (out : List ℕ) (x : Written) (out' : List ℕ) (w : WritesAgain file l ws end out x out') where
+  module _ (out : List ℕ) (x : Result ℕ Refusal) (out' : List ℕ) (w : WritesAgain file l ws end out x out') where
     pub written : length (text_again file l ws end) ≤ most_bytes → length (text_again file l ws end) ≤ length out
-        → (x ≡ Bytes (length (text_again file l ws end))) × (out' ≡ text_again file l ws end ++ drop (length (text_again file l ws end)) out)
+        → (x ≡ Ok (length (text_again file l ws end))) × (out' ≡ text_again file l ws end ++ drop (length (text_again file l ws end)) out)
     written =
         text-written _ _ (words_read file ws) (names_up_to file l end) (rows-checked file ws l r) (names-passed file l opened end h) out x out' w
 
-    pub refused : (most_bytes < length (text_again file l ws end)) ⊎ (length out < length (text_again file l ws end)) → x ≡ Refused (refusal 30 0)
+    pub refused : (most_bytes < length (text_again file l ws end)) ⊎ (length out < length (text_again file l ws end)) → x ≡ Err (refusal 30 0)
     refused =
         text-refused _ _ (words_read file ws) (names_up_to file l end) (rows-checked file ws l r) (names-passed file l opened end h) out x out' w
 
@@ -113,7 +111,7 @@ module _ (file ws : List ℕ) (l : Layout) (r : reading (length ws) file ≡ Fou
         attributes k (inl b) = sym (attribute-lent file l opened end h k b) ∙ sym (t.found.attribute_names k b)
         attributes k (inr b) = attribute-none file l k b ∙ sym (attribute-none text t.table k (rw t.found.attributes b))
 
-    pub text-again : (ws' : List ℕ) (end' : ℕ) → reading (length ws') (text_again file l ws end) ≡ Found t.table → t.table.marks ≤ end'
+    pub text-again : (ws' : List ℕ) (end' : ℕ) → reading (length ws') (text_again file l ws end) ≡ Ok t.table → t.table.marks ≤ end'
         → text_again (text_again file l ws end) t.table ws' end' ≡ text_again file l ws end
     text-again ws' end' r' h' =
         let n = l.attributes in

@@ -1,7 +1,7 @@
 -- What was read of a file passes the checks of a writer: the rows (`rows-checked`), and the file's own names where they stand
 -- (`names-passed`). They are the file's (`rows-read`, `object-lent`, `attribute-lent`). The names and the marks of a table begin at lines that
 -- its counts say (`starts`).
-use Rattle.std.specs.Prelude.{◌≡◌, Bool, true, ◌||◌, get_or, take, drop, eqb}
+use Rattle.std.specs.Prelude.{◌≡◌, Bool, true, ◌||◌, get_or, take, drop, eqb, Ok}
 use Rattle.std.proofs.Math.Path.{refl, ap, subst}
 use Rattle.std.proofs.Common.{sym, ◌∙◌, arith, length-drop, get_or-take, get_or-drop}
 use Rattle.std.proofs.Math.Bool.{false}
@@ -38,7 +38,6 @@ use Rattle.table_walk.proofs.Walk.Passed.{line-there, passes-cons, passes_append
 use Rattle.table_walk.proofs.Walk.Lines.{Fine, fine-walk, passes-fine, fine-behind, fine-count, fine-first}
 use Rattle.table_header.specs.Header.{header, object_count, attribute_count}
 use Rattle.table_layout.specs.declared.Layout.{Layout}
-use Rattle.table_layout.specs.declared.Opened.TheVariants.{Found}
 use Rattle.table_layout.specs.Layout.{to_attribute_names, to_marks, kinds_to_end, layout_of, opened_of}
 use Rattle.table_layout.proofs.OfLayout.Passed.{opened-table, table-attributes, table-marks}
 use Rattle.found_layout.specs.Found.{finds}
@@ -100,7 +99,7 @@ unfolding flat
 flat-length [] = refl
 flat-length (o ∷ os) = omega (arith, flat-length os)
 
-module _ (file ws : List ℕ) (l : Layout) (r : reading (length ws) file ≡ Found l) where
+module _ (file ws : List ℕ) (l : Layout) (r : reading (length ws) file ≡ Ok l) where
   words_are : words_read file ws ≡ flat (rows_from l.objects file l.marks) ++ drop (l.objects * 2) ws
   words_are = ap (λ o. words_of_rows o file ws) r
 
@@ -170,14 +169,14 @@ module _ (file : List ℕ) where
         lines = subst (λ ks. Fine ks (lines_of file)) kinds (passes-fine file (to_marks file) 0 m);
       }
 
-  pub starts : (l : Layout) → opened_of file ≡ Found l → Starts file l
+  pub starts : (l : Layout) → opened_of file ≡ Ok l → Starts file l
   starts l e =
       let t = opened-table file l e in
       subst (Starts file) t.0 (starts-of t.1)
 
 -- ---- the names
 
-module _ (file : List ℕ) (l : Layout) (e : opened_of file ≡ Found l) where
+module _ (file : List ℕ) (l : Layout) (e : opened_of file ≡ Ok l) where
   abbrev count : ℕ
   count = l.objects + l.attributes
 

@@ -1,9 +1,10 @@
 -- The text of a table whose rows pass the checks and whose names pass, and that is no longer than a table file, is read again as that
 -- table (`text-read`).
-use Rattle.std.specs.Prelude.{◌≡◌, refl, List, [], ◌∷◌, ◌++◌, map, ℕ, zero, suc, ◌+◌, ◌*◌, ◌≤◌, length, take, drop, replicate}
+use Rattle.std.specs.Prelude.{◌≡◌, refl, List, [], ◌∷◌, ◌++◌, map, ℕ, zero, suc, ◌+◌, ◌*◌, ◌≤◌, length, take, drop, replicate, Result, Ok}
 use Rattle.std.proofs.Common.{ap, ap₂, subst, ◌∙◌, arith, take-append-drop, get_or-take}
 use mathlib.Core.List.Memᴰ
 use Rattle.std.proofs.lemmas.List.{length-map}
+use Rattle.session.specs.declared.Refusal.{Refusal}
 use Rattle.theory.specs.Lists.{All}
 use Rattle.theory.proofs.Lists.Laws.{all_nil, all_cons, all_append, all_take}
 use Rattle.attribute_set.specs.Sets.{Apart}
@@ -19,8 +20,6 @@ use Rattle.table_lines.specs.Pieces.{lines_of}
 use Rattle.table_lines.proofs.Pieces.Laws.{lines-no-end}
 use Rattle.table_walk.proofs.Walk.Lines.{Fine, fine-taken}
 use Rattle.table_layout.specs.declared.Layout.{Layout}
-use Rattle.table_layout.specs.declared.Opened.{Opened}
-use Rattle.table_layout.specs.declared.Opened.TheVariants.{Found}
 use Rattle.table_layout.specs.Layout.{most_bytes, opened_of}
 use Rattle.table_rows.specs.Rows.{row_of, rows_from}
 use Rattle.mark_reading.specs.Marks.{flat, reading_from, reading, words_of_rows}
@@ -114,7 +113,7 @@ module _ (n used : ℕ) (words names : List ℕ) where
     abbrev table : Layout
     table = table_of text n used
 
-    opened : opened_of text ≡ Found table
+    opened : opened_of text ≡ Ok table
     opened = table-opened text n used name_lines (mark_lines n os) text-table
 
     rows : rows_from used text table.marks ≡ os
@@ -127,10 +126,10 @@ module _ (n used : ℕ) (words names : List ℕ) where
       attributes = refl;
       rows = rows;
       read = λ ws b h.
-          let r : reading (length ws) text ≡ Found table =
+          let r : reading (length ws) text ≡ Ok table =
           reading-fine (length ws) (opened_of text) b ∙ ap (reading_from (length ws)) opened ∙ reading-whole (length ws) table h in (
             r,
-            ap (λ (o : Opened). words_of_rows o text ws) r
+            ap (λ (o : Result Layout Refusal). words_of_rows o text ws) r
                 ∙ ap (λ (t : List Object). flat t ++ drop (used * 2) ws) rows
                 ∙ ap (λ (t : List ℕ). t ++ drop (used * 2) ws) (flat-taken used words (omega (arith, c.places))),
           );

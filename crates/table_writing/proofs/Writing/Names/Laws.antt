@@ -1,6 +1,6 @@
 -- What check 26 tests: of the lines needed, each is a name (`names-good`), or the refusal names the first that is none, by its offset in the
 -- lent names; where it is missing, by their length (`first-bad`).
-use Rattle.std.specs.Prelude.{◌≡◌, refl, Bool, true, false, ◌&&◌, ◌⊎◌, List, [], get_or, replicate, eqb, ltb, leb}
+use Rattle.std.specs.Prelude.{◌≡◌, refl, Bool, true, false, ◌&&◌, ◌⊎◌, List, [], get_or, replicate, eqb, ltb, leb, Result, Ok, Err}
 use Rattle.std.proofs.Math.Path.{sym, ap}
 use Rattle.std.proofs.Common.{subst, ◌∙◌, true≢false, inl, inr, arith, eqb-true, ltb-true, leb-true, lt-ltb, le-leb}
 use Rattle.std.proofs.Math.Bool.{and-eq-true_iff}
@@ -17,8 +17,6 @@ use Rattle.table_kinds.specs.declared.Kind.TheVariants.{Name}
 use Rattle.line_tests.specs.Tests.{most_name_bytes}
 use Rattle.line_tests.proofs.Tests.Laws.{unless-fine}
 use Rattle.line_faults.specs.Faults.{fault}
-use Rattle.line_walk.specs.declared.Walk.{Walk}
-use Rattle.line_walk.specs.declared.Walk.TheVariants.{Failed, At}
 use Rattle.line_walk.specs.Walk.{line_fault, walk}
 use Rattle.line_walk.proofs.OfWalk.Laws.{fault-there, walk-passed, walk-failed}
 use Rattle.table_walk.proofs.Walk.Passed.{line-there}
@@ -62,9 +60,9 @@ module _ (names : List ℕ) (k : ℕ) where
 abbrev Before : List ℕ → ℕ → Type 0
 Before names j = (i : ℕ) → i < j → GoodName names i
 
-abbrev Found : List ℕ → ℕ → Walk → Type 0
-Found names count (At at) = Before names count
-Found names count (Failed r) = (k : ℕ) × FirstBad names count k r.place
+abbrev Found : List ℕ → ℕ → Result ℕ Refusal → Type 0
+Found names count (Ok at) = Before names count
+Found names count (Err r) = (k : ℕ) × FirstBad names count k r.place
 
 one_more : (names : List ℕ) (j : ℕ) → Before names j → GoodName names j → Before names (suc j)
 one_more names j b g i h = go (lt-or-le i j)
@@ -130,9 +128,9 @@ module _ (n used : ℕ) (names : List ℕ) where
   pub names-good : NamesPass n used names → (k : ℕ) → k < used + n → GoodName names k
   names-good e = go (names_walk n used names) e names-found
     where
-      go : (w : Walk) → is_failed w ≡ false → Found names (used + n) w → (k : ℕ) → k < used + n → GoodName names k
-      go (At at) p f = f
-      go (Failed r) p f = absurd (true≢false p)
+      go : (w : Result ℕ Refusal) → is_failed w ≡ false → Found names (used + n) w → (k : ℕ) → k < used + n → GoodName names k
+      go (Ok at) p f = f
+      go (Err r) p f = absurd (true≢false p)
 
-  pub first-bad : (r : Refusal) → names_walk n used names ≡ Failed r → (k : ℕ) × FirstBad names (used + n) k r.place
+  pub first-bad : (r : Refusal) → names_walk n used names ≡ Err r → (k : ℕ) × FirstBad names (used + n) k r.place
   first-bad r e = subst (Found names (used + n)) e names-found

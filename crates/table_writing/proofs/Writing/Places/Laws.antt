@@ -1,5 +1,5 @@
 -- Every refusal of a writer has such a number, and names such a place (`right-place`).
-use Rattle.std.specs.Prelude.{◌≡◌, refl, true, List, ℕ, ◌+◌, length}
+use Rattle.std.specs.Prelude.{◌≡◌, refl, true, List, ℕ, ◌+◌, length, Err, Result, Ok}
 use Rattle.std.proofs.Common.{sym, ap, true≢false, inl, arith}
 use Rattle.std.proofs.Math.Logic.{inr}
 use Rattle.std.proofs.Math.Option.{Option, none, some}
@@ -9,14 +9,11 @@ use Rattle.session.specs.declared.Refusal.{Refusal}
 use Rattle.session.specs.Refusals.{refusal}
 use Rattle.machine.specs.Checks.{Check, first_failing}
 use Rattle.demands.proofs.Facts.Refused.{failing-check}
-use Rattle.line_walk.specs.declared.Walk.{Walk}
-use Rattle.line_walk.specs.declared.Walk.TheVariants.{Failed, At}
 use Rattle.table_walk.specs.Walk.{place_of}
 use Rattle.row_checks.specs.Rows.{row_checks}
 use Rattle.row_checks.specs.Rows.Places.{RightRow}
 use Rattle.row_checks.proofs.Rows.Laws.{right-rows}
 use Rattle.table_text.specs.Table.{text_of}
-use Rattle.table_writing.specs.declared.Written.TheVariants.{Refused}
 use Rattle.table_writing.specs.Writing.{names_walk, is_failed, write_checks, written_by, writing}
 use Rattle.table_writing.specs.Writing.Names.{FirstBad}
 use Rattle.table_writing.proofs.Writing.Names.Laws.{first-bad}
@@ -43,9 +40,9 @@ module _ (n used : ℕ) (words names : List ℕ) where
     other = λ a b. absurd (b refl);
   }
     where
-      go : (w : Walk) → names_walk n used names ≡ w → is_failed w ≡ true → (k : ℕ) × FirstBad names (used + n) k (place_of w)
-      go (At at) e g = absurd (true≢false (sym g))
-      go (Failed r) e g = first-bad n used names r e
+      go : (w : Result ℕ Refusal) → names_walk n used names ≡ w → is_failed w ≡ true → (k : ℕ) × FirstBad names (used + n) k (place_of w)
+      go (Ok at) e g = absurd (true≢false (sym g))
+      go (Err r) e g = first-bad n used names r e
 
   places : (room : ℕ) → All Right (write_checks n used words names room)
   unfolding write_checks
@@ -58,13 +55,13 @@ module _ (n used : ℕ) (words names : List ℕ) where
         other = λ a b. refl;
       }) (all_nil _)))
 
-refused-by : (o : Option Refusal) (size : ℕ) (r : Refusal) → written_by o size ≡ Refused r → o ≡ some r
+refused-by : (o : Option Refusal) (size : ℕ) (r : Refusal) → written_by o size ≡ Err r → o ≡ some r
 refused-by none size r e = let z : ◌≡◌ {A = ℕ} 0 1 = cc in absurd (omega arith)
 refused-by (some x) size r e =
     let same : x ≡ r = cc in
     ap some same
 
-pub right-place : (n used : ℕ) (words names : List ℕ) (room : ℕ) (r : Refusal) → writing n used words names room ≡ Refused r
+pub right-place : (n used : ℕ) (words names : List ℕ) (room : ℕ) (r : Refusal) → writing n used words names room ≡ Err r
     → RightPlace n used words names r
 right-place n used words names room r e =
     let o = first_failing (write_checks n used words names room) in

@@ -1,9 +1,10 @@
 -- The program's output is the one by written marks: along an interview of a complete table each call of a beat is the one by written
 -- marks (`same-beat`), since the rows filed and the row offered are rows of the table; so all beats are (`same-beats`).
-use Rattle.std.specs.Prelude.{◌≡◌, Bool, true, false, List, [], ◌++◌, length, get_or, ltb}
+use Rattle.std.specs.Prelude.{◌≡◌, Bool, true, false, List, [], ◌++◌, length, get_or, ltb, Result, Ok, Err}
 use Rattle.std.proofs.Math.Path.{refl, ap}
 use Rattle.std.proofs.Common.{sym, ◌∙◌}
 use Prim.Native.Nat.{ℕ, zero, suc, ◌+◌}
+use Rattle.session.specs.declared.Refusal.{Refusal}
 use Rattle.theory.specs.Lists.{All}
 use Rattle.theory.specs.Implications.{Implication}
 use Rattle.context.specs.Objects.{Object, object, first_written}
@@ -16,8 +17,6 @@ use Rattle.table_layout.specs.Layout.{opened_of}
 use Rattle.complete_tables.specs.Complete.{complete_of}
 use Rattle.complete_tables.proofs.Complete.Laws.{complete-table}
 use Rattle.table_layout.specs.declared.Layout.{Layout}
-use Rattle.table_layout.specs.declared.Opened.{Opened}
-use Rattle.table_layout.specs.declared.Opened.TheVariants.{Found, Refused}
 use Rattle.output_lines.specs.Lines.{yes_line, no_line}
 use Rattle.transcript.specs.Output.{Beat, more, last, replied, answered, stepped, beat, beats, enough, interviewed, table_of, written, output_with, places}
 use Rattle.transcript.specs.Core.Along.{Along, row-consistent}
@@ -97,14 +96,14 @@ same-output : (lent : Lent) (file : List ℕ) → output_with lent file ≡ writ
 unfolding output_with written_output_with
 same-output lent file = go (complete_of file (opened_of file)) refl
   where
-    held : (l : Layout) → complete_of file (opened_of file) ≡ Found l → (o : Opening) → opening l.attributes lent [] [] ≡ o
+    held : (l : Layout) → complete_of file (opened_of file) ≡ Ok l → (o : Opening) → opening l.attributes lent [] [] ≡ o
         → interviewed (table_of file l) o ≡ written_interviewed (table_of file l) o
     held l e (opened s) f = same-beats (enough s) (table_of file l) s 0 (opened-along (table_of file l) l.attributes lent s (complete-table file l e) f)
     held l e (rejected r) f = refl
 
-    go : (x : Opened) → complete_of file (opened_of file) ≡ x → written lent file x ≡ written_from lent file x
-    go (Found l) e = held l e (opening l.attributes lent [] []) refl
-    go (Refused r) e = refl
+    go : (x : Result Layout Refusal) → complete_of file (opened_of file) ≡ x → written lent file x ≡ written_from lent file x
+    go (Ok l) e = held l e (opening l.attributes lent [] []) refl
+    go (Err r) e = refl
 
 pub transcript-unchanged : Unchanged
 transcript-unchanged = record { with_places = same-output; output = same-output places }

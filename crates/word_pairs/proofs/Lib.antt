@@ -1,0 +1,4 @@
+pub mod Chunks
+pub mod Makes
+pub mod Lowest
+pub mod Folds
