@@ -48,7 +48,8 @@ fn put_listed(out: &mut [u8], at: usize, n: usize, premise: u64, conclusion: u64
     put_rule(out, at, n, b"L ", premise, conclusion, b"\n")
 }
 
-// The lines of the list's first count rules, as far as the slice has them whole.
+// The lines of the list's first count rules, as far as the slice has them whole. A loop of its own, as `table_text::put_rows`: a closure
+// that writes into the lent buffer would be longer than the loop.
 pub fn put_list(out: &mut [u8], at: usize, n: usize, list: &[u64], count: usize) -> usize
     ensures { Puts out at result (list_lines n (whole_rules count list.now)) }
 {

@@ -19,7 +19,7 @@ pub fn refused(number: u64, place: usize) -> Result<(), Refusal>
 }
 
 // Checks 1 to 3.
-#[tactic(auto, using(implication::proofs::Pairs::Laws::length_pairs), unfolding(machine::specs::Checks::session_checks, machine::specs::Checks::first_failing))]
+#[tactic(auto, unfolding(machine::specs::Checks::session_checks, machine::specs::Checks::first_failing))]
 pub fn check_sizes(
     session: session::Session,
     rows: &[u64],

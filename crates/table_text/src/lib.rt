@@ -27,7 +27,7 @@ fn put_row(out: &mut [u8], at: usize, n: usize, yes: u64, no: u64) -> usize
     text::put_byte(out, marked, b'\n')
 }
 
-// The lines of marks of the rows in use, as many of them as the slice has whole.
+// The lines of marks of the rows in use, as many of them as the slice has whole: a loop of its own, as `output_lines::put_list`.
 pub fn put_rows(out: &mut [u8], at: usize, n: usize, rows: &[u64], used: usize) -> usize
     ensures { Puts out at result (closed (mark_lines n (objects_of (whole used rows.now) rows.now))) }
 {
