@@ -35,7 +35,7 @@ fn main(rt: HostRuntime) {
         let _ = stderr.write_all(b"standard output cannot be written\n");
     }
     let mut report = [0u8; REPORT_BYTES];
-    let explained = explore_answers::explain(&file[..size], &mut report);
+    let explained = explore_answers::explain(&file, size, &mut report);
     standard_streams::say(&mut stderr, &report, explained);
     if explained != 0 {
         return;

@@ -1,7 +1,7 @@
 // What the program explore answers to the bytes that it has read (01: the program): its output, and beside it why a file is refused.
 #![tactic(auto)]
 
-ghost use Rattle.std.specs.Prelude.{◌≡◌, ◌&&◌, ◌-◌, get_or, eqb, leb};
+ghost use Rattle.std.specs.Prelude.{◌≡◌, ◌&&◌, ◌-◌, take, get_or, eqb, leb};
 ghost use Rattle.text.specs.Page.{Puts};
 ghost use Rattle.refusal_reports.specs.Reports.{explanation};
 ghost use Rattle.explore_answers.specs.Answers.{Answers};
@@ -29,11 +29,14 @@ pub fn answer<W: Write>(
     table_interview::hold(&bytes[..end], Session::ROWS, Session::RULES, out, writer)
 }
 
-// Why the file is refused; nothing where it is a complete table.
-pub fn explain(file: &[u8], report: &mut [u8; REPORT_BYTES]) -> usize
-    ensures { Puts report 0 result (explanation file.now) }
+// Why the file in the first so many bytes of the buffer is refused; nothing where it is a complete table. The buffer and the size, as of
+// `answer`: the clause says which bytes are read, whatever the program lends.
+pub fn explain(file: &[u8; FILE_BYTES], size: usize, report: &mut [u8; REPORT_BYTES]) -> usize
+    ensures { Puts report 0 result (explanation (take size file.now)) }
 {
-    refusal_reports::put_explanation(report, 0, file)
+    let bytes: &[u8] = file;
+    let end = size.min(bytes.len());
+    refusal_reports::put_explanation(report, 0, &bytes[..end])
 }
 
 // The output ends in the line `E 12 0`: an E seven bytes before the end. The E of an END line stands further from it.

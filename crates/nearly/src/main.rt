@@ -29,6 +29,6 @@ fn main(rt: HostRuntime) {
         let _ = stderr.write_all(b"standard output cannot be written\n");
     }
     let mut report = [0u8; REPORT_BYTES];
-    let explained = nearly_answers::explain(&file[..size], &mut report);
+    let explained = nearly_answers::explain(&file, size, &mut report);
     standard_streams::say(&mut stderr, &report, explained);
 }

@@ -1,6 +1,7 @@
 // What the program nearly answers to the bytes that it has read (02, request 3/13): its output, and beside it why a file is refused.
 #![tactic(auto)]
 
+ghost use Rattle.std.specs.Prelude.{take};
 ghost use Rattle.table_layout.specs.Layout.{opened_of};
 ghost use Rattle.text.specs.Page.{Puts};
 ghost use Rattle.refusal_reports.specs.Reports.{explanation_of};
@@ -27,9 +28,12 @@ pub fn answer<W: Write>(
     nearly_output::list_file(&bytes[..end], out, writer)
 }
 
-// Why the file is refused; nothing where it is a table.
-pub fn explain(file: &[u8], report: &mut [u8; REPORT_BYTES]) -> usize
-    ensures { Puts report 0 result (explanation_of file.now (opened_of file.now)) }
+// Why the file in the first so many bytes of the buffer is refused; nothing where it is a table. The buffer and the size, as of `answer`: the
+// clause says which bytes are read, whatever the program lends.
+pub fn explain(file: &[u8; FILE_BYTES], size: usize, report: &mut [u8; REPORT_BYTES]) -> usize
+    ensures { Puts report 0 result (explanation_of (take size file.now) (opened_of (take size file.now))) }
 {
-    refusal_reports::put_opened(report, 0, file)
+    let bytes: &[u8] = file;
+    let end = size.min(bytes.len());
+    refusal_reports::put_opened(report, 0, &bytes[..end])
 }

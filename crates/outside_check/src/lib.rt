@@ -10,6 +10,8 @@ ghost use Rattle.machine.specs.Checks.{strange};
 ghost use Rattle.machine.specs.Calls.{given};
 ghost use Rattle.outside_check.specs.Outside.{Outside};
 
+use word_pairs::PairTest;
+
 // Either word has an attribute outside m.
 pub fn strange_pair(a: u64, b: u64, m: u64) -> bool
     ensures { result ≡ strange m a b }
@@ -17,12 +19,26 @@ pub fn strange_pair(a: u64, b: u64, m: u64) -> bool
     a & m != a || b & m != b
 }
 
+// What a search asks of each pair: whether either word has an attribute outside m.
+#[derive(Clone, Copy)]
+struct OutsideOf {
+    m: u64,
+}
+
+impl PairTest for OutsideOf {
+    ghost passes = { λ s. strange s.m };
+
+    fn test(&self, first: u64, second: u64) -> bool {
+        strange_pair(first, second, self.m)
+    }
+}
+
 // One of the first count pairs of words has an attribute outside m.
 fn strange_among(words: &[u64], count: usize, m: u64) -> bool
     requires { count * 2 ≤ length words.now }
     ensures { result ≡ anywhere (λ (b : Bool). b) (pairs (strange m) count words.now) }
 {
-    word_pairs::first_that(words, count, |a, b| strange_pair(a, b, m)) < count
+    word_pairs::first_that(words, count, &OutsideOf { m }) < count
 }
 
 // Check 4: a row in use, a rule in force, the rule asked about or the current set has an attribute outside M.

@@ -10,7 +10,11 @@ pub fn rewrite(file: &[u8], out: &mut [u8]) -> Result<usize, Refusal>
     ensures { Rewrites file out result }
 {
     let mut rows = [0u64; Session::ROWS * 2];
-    let layout = table_marks::read_marks(file, &mut rows)?;
+    // No `?`: must-fail/refused_file_answered_as_written is an edit of the second arm.
+    let layout = match table_marks::read_marks(file, &mut rows) {
+        Ok(layout) => layout,
+        Err(refusal) => return Err(refusal),
+    };
     let names = &file[layout.object_names..];
     table_writer::write_table(layout.attributes, layout.objects, &rows, names, out)
 }

@@ -41,18 +41,15 @@ pub fn refuted(
         (refuting_answer result) session }
 {
     session_checks::check_session(session, rows, list, background, premise, conclusion)?;
+    let used = session.rows;
     let row = refuting_rows::first_refuting(
         rows,
-        session.rows,
+        used,
         background,
         list,
         session.rules,
         premise,
         conclusion,
     );
-    if row < session.rows {
-        Ok(Some(row))
-    } else {
-        Ok(None)
-    }
+    if row < used { Ok(Some(row)) } else { Ok(None) }
 }

@@ -27,15 +27,16 @@ pub fn is_yes(b: u8) -> bool
 pub fn is_no(b: u8) -> bool
     ensures { result ≡ is_no b }
 {
-    b == b'.'
+    matches!(b, b'.')
 }
 
 fn is_unknown(b: u8) -> bool
     ensures { result ≡ is_unknown b }
 {
-    b == b'?'
+    matches!(b, b'?')
 }
 
+// A case for each: X and x are yes, . is no, ? is unknown.
 fn is_mark(b: u8) -> bool
     ensures { result ≡ is_mark b }
 {

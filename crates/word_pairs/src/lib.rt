@@ -1,17 +1,33 @@
 // Rows and rules lie in a flat slice, two words each: a search and a fold over these pairs, which look at those alone that the slice has
-// whole.
+// whole. What is done with a pair is a method of a type of the caller's, which has what it needs beside the two words.
 #![tactic(auto)]
 
+ghost use Rattle.std.specs.Prelude.{◌≡◌, Bool, ℕ};
 ghost use Rattle.word_pairs.specs.Walks.{FirstThat, FoldPairs};
 
+// A test of two words: it answers `passes` of the two, whichever they are, so that a search asks nothing of its caller.
+pub trait PairTest {
+    ghost passes: { Self → ℕ → ℕ → Bool };
+
+    fn test(&self, first: u64, second: u64) -> bool
+        ensures { result ≡ passes self.now first second };
+}
+
+// What two words make of a third: `changed` of the three, whichever they are.
+pub trait PairChange {
+    ghost changed: { Self → ℕ → ℕ → ℕ → ℕ };
+
+    fn change(&self, first: u64, second: u64, made: u64) -> u64
+        ensures { result ≡ changed self.now first second made };
+}
+
 // The place of the first of the first count pairs that passes the test; count where none does.
-pub fn first_that<F: Fn(u64, u64) -> bool>(words: &[u64], count: usize, test: F) -> usize
-    requires { F.IsAlwaysCallable test }
-    ensures { FirstThat (F.post test) count words.now result }
+pub fn first_that<T: PairTest>(words: &[u64], count: usize, by: &T) -> usize
+    ensures { FirstThat (λ a b r. r ≡ T.passes by.now a b) count words.now result }
 {
     let (pairs, _) = words.as_chunks::<2>();
     for (place, pair) in pairs[..count.min(pairs.len())].iter().enumerate() {
-        if test(pair[0], pair[1]) {
+        if by.test(pair[0], pair[1]) {
             return place;
         }
     }
@@ -19,19 +35,13 @@ pub fn first_that<F: Fn(u64, u64) -> bool>(words: &[u64], count: usize, test: F)
 }
 
 // What the first count pairs, in order, make of a word.
-pub fn fold_pairs<F: Fn(u64, u64, u64) -> u64>(
-    words: &[u64],
-    count: usize,
-    start: u64,
-    change: F,
-) -> u64
-    requires { F.IsAlwaysCallable change }
-    ensures { FoldPairs (F.post change) count words.now start result }
+pub fn fold_pairs<T: PairChange>(words: &[u64], count: usize, start: u64, by: &T) -> u64
+    ensures { FoldPairs (λ a b x y. y ≡ T.changed by.now a b x) count words.now start result }
 {
     let (pairs, _) = words.as_chunks::<2>();
     let mut made = start;
     for pair in &pairs[..count.min(pairs.len())] {
-        made = change(pair[0], pair[1], made);
+        made = by.change(pair[0], pair[1], made);
     }
     made
 }

@@ -1,5 +1,5 @@
 -- The place that the search finds is one of the count just if a pair is strange.
-use Rattle.std.proofs.Common.{rules, arith, ap, sym, ◌∙◌, ltb}
+use Rattle.std.proofs.Common.{arith, ap, sym, ◌∙◌, ltb}
 use Rattle.implication.proofs.Pairs.Laws.{length_pairs}
 use Rattle.implication.specs.Pairs.{pairs}
 use Rattle.context.specs.Places.{anywhere, lowest}
@@ -12,5 +12,5 @@ unfolding anywhere
 returns c =
     let a = c.args in
     let e = first-whole (λ b. b) (strange a.m) a.words.now a.count _ c.type_inv.words
-    (λ x y h k b e. search rules) _ c.first_that.ensures (omega arith) in
+    (λ x y h k b e. e) _ c.first_that.ensures (omega arith) in
     ap (λ k. ltb k a.count) e ∙ ap (ltb (lowest (λ b. b) (pairs (strange a.m) a.count a.words.now))) (sym (length_pairs (strange a.m) a.count a.words.now))

@@ -1,6 +1,5 @@
 -- A refusal is the reader's; else what was read is written, with the names where they stand.
-use Rattle.std.proofs.Common.{◌≡◌, refl, sym, ap, ◌∙◌, List, ℕ, length, Result, Err}
-use Rattle.std.proofs.lemmas.Result.{err_from_is_err_and}
+use Rattle.std.proofs.Common.{◌≡◌, refl, sym, ◌∙◌, List, ℕ, length, Result}
 use Rattle.session.specs.declared.Refusal.{Refusal}
 use Rattle.table_layout.specs.declared.Layout.{Layout}
 use Rattle.table_layout.specs.Layout.{opened_of}
@@ -15,19 +14,18 @@ opens : (file : List ℕ) (x : Result Layout Refusal) → x ≡ reading (length 
 opens file x e = sym (read_opened file) ∙ sym e
 
 pub slice_bounds-names-count : goal.slice_bounds-names-count
-slice_bounds-names-count c = (starts-inside c.args.file.now _ (opens c.args.file.now _ c.in_ok-layout.ensures.answer)).0
+slice_bounds-names-count c = (starts-inside c.args.file.now _ (opens c.args.file.now _ c.in-Ok.ensures.answer)).0
 
 pub slice_bounds-names-start : goal.slice_bounds-names-start
-slice_bounds-names-start c = (starts-inside c.args.file.now _ (opens c.args.file.now _ c.in_ok-layout.ensures.answer)).0
+slice_bounds-names-start c = (starts-inside c.args.file.now _ (opens c.args.file.now _ c.in-Ok.ensures.answer)).0
 
-pub returns-in_err-layout : goal.returns-in_err-layout
-returns-in_err-layout c =
+pub returns-in-Err : goal.returns-in-Err
+returns-in-Err c =
     let a = c.args in
-    let p = err_from_is_err_and c.from_residual.result c.from_residual.ensures.1 in
-    rewrites-refused a.file.now a.out.now _ a.out.now _ (opens a.file.now _ c.in_err-layout.ensures.answer) (p.1 ∙ ap Err p.2) refl
+    rewrites-refused a.file.now a.out.now _ a.out.now _ (opens a.file.now _ c.in-Err.ensures.answer) refl refl
 
 pub returns : goal.returns
 returns c =
     let a = c.args in
-    let b = c.in_ok-layout in
+    let b = c.in-Ok in
     rewrites-found a.file.now a.out.now _ _ _ c.read_marks.new.rows (opens a.file.now _ b.ensures.answer) b.ensures.written c.write_table.ensures

@@ -1,5 +1,5 @@
 -- The test was made of the words of the pair at the place, and the pairs before it failed.
-use Rattle.std.proofs.Common.{arith, true, false, below_more, subst₂}
+use Rattle.std.proofs.Common.{◌≡◌, arith, true, false, below_more, subst₂}
 use Rattle.word_pairs.proofs.Chunks.{length_taken, first_word, second_word}
 use Rattle.word_pairs.proofs.first_that.Goals as goal
 
@@ -12,7 +12,7 @@ returns-then-test g c =
       before = λ k h i. c.loop-place.invariant k h;
       at = λ h. (
         omega (arith, l),
-        subst₂ (λ x y. g.F.Fn.post c.args.test (x, (y, tt)) true)
+        subst₂ (λ x y. true ≡ g.T.PairTest.passes c.args.by.now x y)
             (first_word _ _ whole c.min.result c.loop-place.place c.loop-place-test.true)
             (second_word _ _ whole c.min.result c.loop-place.place c.loop-place-test.true)
             c.if-test.ensures,
@@ -23,7 +23,7 @@ pub loop-place-preserved : goal.loop-place-preserved
 loop-place-preserved g c =
     let whole = c.as_chunks.ensures.front in
     below_more _ _ c.loop-place.invariant
-    (subst₂ (λ x y. g.F.Fn.post c.args.test (x, (y, tt)) false)
+    (subst₂ (λ x y. false ≡ g.T.PairTest.passes c.args.by.now x y)
     (first_word _ _ whole c.min.result c.loop-place.place c.loop-place-test.true)
     (second_word _ _ whole c.min.result c.loop-place.place c.loop-place-test.true)
     c.if-test.ensures)

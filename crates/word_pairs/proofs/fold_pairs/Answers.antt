@@ -14,8 +14,8 @@ loop-pair-preserved g c =
     let whole = c.as_chunks.ensures.front in
     let l = c.loop-pair in (
       omega (arith, c.change-made.type_inv),
-      makes-next (λ a b x y. g.F.Fn.post c.args.change (a, (b, (x, tt))) y) _ _ _ _ _ l.invariant.0 l.invariant.1
-          (subst₂ (λ a b. g.F.Fn.post c.args.change (a, (b, (l.made, tt))) c.change-made.result)
+      makes-next (λ a b x y. y ≡ g.T.PairChange.changed c.args.by.now a b x) _ _ _ _ _ l.invariant.0 l.invariant.1
+          (subst₂ (λ a b. c.change-made.result ≡ g.T.PairChange.changed c.args.by.now a b l.made)
           (first_word _ _ whole c.min.result l.pair-index c.loop-pair-test.true)
           (second_word _ _ whole c.min.result l.pair-index c.loop-pair-test.true)
           c.change-made.ensures),
@@ -26,4 +26,4 @@ returns g c =
     let a = c.args in
     let l = length_taken _ _ c.as_chunks.ensures.front c.min.result in
     let e : c.loop-pair.pair-index ≡ min a.count (length a.words.now / 2) = omega (arith, l, c.as_chunks.ensures.front_len) in
-    subst (λ n. Makes (λ b d x y. g.F.Fn.post a.change (b, (d, (x, tt))) y) a.words.now n a.start c.loop-pair.made) e c.loop-pair.invariant.1
+    subst (λ n. Makes (λ b d x y. y ≡ g.T.PairChange.changed a.by.now b d x) a.words.now n a.start c.loop-pair.made) e c.loop-pair.invariant.1
