@@ -28,8 +28,8 @@ pub fn answer<W: Write>(
     nearly_output::list_file(&bytes[..end], out, writer)
 }
 
-// Why the file in the first so many bytes of the buffer is refused; nothing where it is a table. The buffer and the size, as of `answer`: the
-// clause says which bytes are read, whatever the program lends.
+// Why the file in the first so many bytes of the buffer is refused; nothing where it is a table. The buffer and the size, as of
+// `answer`: the clause says which bytes are read, whatever the program lends.
 pub fn explain(file: &[u8; FILE_BYTES], size: usize, report: &mut [u8; REPORT_BYTES]) -> usize
     ensures { Puts report 0 result (explanation_of (take size file.now) (opened_of (take size file.now))) }
 {
