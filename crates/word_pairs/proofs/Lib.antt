@@ -2,3 +2,4 @@ pub mod Chunks
 pub mod Makes
 pub mod Lowest
 pub mod Folds
+pub mod Found

@@ -26,12 +26,11 @@ pub fn first_that<T: PairTest>(words: &[u64], count: usize, by: &T) -> usize
     ensures { FirstThat (λ a b r. r ≡ T.passes by.now a b) count words.now result }
 {
     let (pairs, _) = words.as_chunks::<2>();
-    for (place, pair) in pairs[..count.min(pairs.len())].iter().enumerate() {
-        if by.test(pair[0], pair[1]) {
-            return place;
-        }
+    let whole = &pairs[..count.min(pairs.len())];
+    match whole.iter().position(|pair| by.test(pair[0], pair[1])) {
+        Some(place) => place,
+        None => count,
     }
-    count
 }
 
 // What the first count pairs, in order, make of a word.

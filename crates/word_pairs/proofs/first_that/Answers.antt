@@ -1,38 +1,25 @@
--- The test was made of the words of the pair at the place, and the pairs before it failed.
-use Rattle.std.proofs.Common.{◌≡◌, arith, true, false, below_more, subst₂}
-use Rattle.word_pairs.proofs.Chunks.{length_taken, first_word, second_word}
+-- What `position` finds among the whole pairs is the first that passes; where it finds none, none does.
+use Rattle.std.proofs.Common.{true, false, arith, rules}
+use Rattle.std.proofs.lemmas.Iterator.{IsFirst-from_position, YieldsList-from_slice}
+use Rattle.std.proofs.lemmas.Option.{MatchOption-at_some, MatchOption-at_none}
+use Rattle.word_pairs.proofs.Found.{Gives, none-found, first-found}
 use Rattle.word_pairs.proofs.first_that.Goals as goal
 
-pub returns-then-test : goal.returns-then-test
-returns-then-test g c =
-    let whole = c.as_chunks.ensures.front in
-    let l = length_taken _ _ whole c.min.result in
-    record {
-      most = omega (arith, l);
-      before = λ k h i. c.loop-place.invariant k h;
-      at = λ h. (
-        omega (arith, l),
-        subst₂ (λ x y. true ≡ g.T.PairTest.passes c.args.by.now x y)
-            (first_word _ _ whole c.min.result c.loop-place.place c.loop-place-test.true)
-            (second_word _ _ whole c.min.result c.loop-place.place c.loop-place-test.true)
-            c.if-test.ensures,
-      );
-    }
+pub returns-in-Some : goal.returns-in-Some
+returns-in-Some g c =
+    let a = c.args in
+    let test = g.T.PairTest.passes a.by.now in
+    let pairs = c.as_chunks.ensures in
+    let found = IsFirst-from_position _ _ _ (Gives test true) (Gives test false) c.position.ensures.ran (YieldsList-from_slice _ c.iter.ensures.rest)
+    (λ x q k. search rules) (λ x q k. search rules) in
+    first-found test a.words.now _ pairs.front a.count c.min.result (omega (arith, c.min.ensures, pairs.front_len)) c.in-Some.place
+    (MatchOption-at_some _ _ _ c.in-Some.is found)
 
-pub loop-place-preserved : goal.loop-place-preserved
-loop-place-preserved g c =
-    let whole = c.as_chunks.ensures.front in
-    below_more _ _ c.loop-place.invariant
-    (subst₂ (λ x y. false ≡ g.T.PairTest.passes c.args.by.now x y)
-    (first_word _ _ whole c.min.result c.loop-place.place c.loop-place-test.true)
-    (second_word _ _ whole c.min.result c.loop-place.place c.loop-place-test.true)
-    c.if-test.ensures)
-
-pub returns : goal.returns
-returns g c =
-    let l = length_taken _ _ c.as_chunks.ensures.front c.min.result in
-    record {
-      most = omega arith;
-      before = λ k h i. c.loop-place.invariant k (omega (arith, l, c.loop-place-test.false));
-      at = λ h. absurd (omega arith);
-    }
+pub returns-in-None : goal.returns-in-None
+returns-in-None g c =
+    let a = c.args in
+    let test = g.T.PairTest.passes a.by.now in
+    let pairs = c.as_chunks.ensures in
+    let found = IsFirst-from_position _ _ _ (Gives test true) (Gives test false) c.position.ensures.ran (YieldsList-from_slice _ c.iter.ensures.rest)
+    (λ x q k. search rules) (λ x q k. search rules) in
+    none-found test a.words.now _ pairs.front a.count c.min.result (omega (arith, c.min.ensures, pairs.front_len)) (MatchOption-at_none _ _ c.in-None.is found)
