@@ -1,8 +1,8 @@
 // The search and the fold by closures, and by a test and a change whose result the words do not fix.
 //
 // A closure may be called with any words: that is an invariant of the type that holds it. An invariant can cite a member of a trait and
-// not what the bound of a closure says, so the closure stands behind a trait. `first_that` and `fold_pairs` below take one, and promise of
-// the result what the closure promises.
+// not what the bound of a closure says, so the closure stands behind a trait. `first_that` and `fold_pairs` below take a closure, and
+// promise of the result what the closure promises.
 ghost use Rattle.std.specs.Prelude.{Bool, ℕ, ◌≡◌};
 ghost use Rattle.word_pairs.specs.Walks.{FirstThat, FoldPairs};
 
